@@ -9,6 +9,7 @@
 mod design;
 mod element;
 mod node;
+mod one_gate;
 mod operation;
 mod parts;
 mod values;
@@ -16,6 +17,7 @@ mod values;
 pub use design::Design;
 pub use element::{Driver, Element, Flop, Latch, Level, Memory, ReadPort, WritePort};
 pub use node::NodeId;
+pub use one_gate::OneGate;
 pub use operation::Op;
 pub use parts::{NetName, Parts, Port, Scope};
 pub use values::{Placement, PortBit, PortValues};
