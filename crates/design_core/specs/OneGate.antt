@@ -1,14 +1,12 @@
 -- The parts of the plainest design: one input port, one output port, one gate.
 -- The rule is told in docs/FORMATS.md, "The design".
-use Rattle.std.specs.Prelude.{map, ℕ, Bool, Option, Some, None, List, [], ◌∷◌, codes, if◌then◌else◌}
+use Rattle.std.specs.Prelude.{map, ℕ, Option, Some, None, List, [], ◌∷◌, codes, if◌then◌else◌}
 use Rattle.id_arena.specs.declared.keys.NetId.{NetId}
 use Rattle.design_core.specs.declared.one_gate.OneGate.{OneGate}
 use Rattle.design_core.specs.declared.operation.Op.{Op}
 use Rattle.design_core.specs.declared.operation.Op.TheVariants.{Buf, Not}
-use Rattle.design_core.specs.declared.element.Element.{Element}
 use Rattle.design_core.specs.declared.element.Element.TheVariants.{Gate}
 use Rattle.design_core.specs.declared.parts.Parts.{Parts}
-use Rattle.design_core.specs.declared.parts.Port.{Port}
 use Rattle.design_core.specs.declared.parts.NetName.{NetName}
 use Rattle.design_core.specs.declared.parts.Scope.{Scope}
 
