@@ -79,9 +79,9 @@ above rank (b ∷ bs) = max (rank b + 1) (above rank bs)
 -- a node has a rank where all its dependencies have one, and its rank is the number above theirs
 pub data HasRank (p : Parts) : NodeId → ℕ → Type 0 where
   ranked : (a : NodeId) (k : ℕ) (rank : NodeId → ℕ)
-    → ((b : NodeId) → Contains (dependencies p a) b → HasRank p b (rank b))
-    → k ≡ above rank (dependencies p a)
-    → HasRank p a k
+      → ((b : NodeId) → Contains (dependencies p a) b → HasRank p b (rank b))
+      → k ≡ above rank (dependencies p a)
+      → HasRank p a k
 
 -- a design is ranked where each of its nodes has a rank, so that no node depends on itself
 abbrev pub IsRanked : Parts → Type 0

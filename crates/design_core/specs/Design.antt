@@ -66,8 +66,8 @@ element_driver k = Elem (record { place = k })
 abbrev pub inner_driver : Parts → ℕ → Option Driver
 inner_driver p n =
     option_or
-        (option_map element_driver (position (drives n) p.elements))
-        (option_map read_driver (find (λ b. b.net == n) (read_bits p)))
+    (option_map element_driver (position (drives n) p.elements))
+    (option_map read_driver (find (λ b. b.net == n) (read_bits p)))
 
 -- what drives a net: nets 0 and 1 are the constants, and a net that nothing drives is the constant 0
 abbrev pub driver : Parts → ℕ → Driver
@@ -81,9 +81,9 @@ driver p n =
 abbrev pub driver_count : Parts → ℕ → ℕ
 driver_count p n =
     (if nat_lt n 2 then 1 else 0)
-        + count_by (is_net n) (port_bits p.inputs)
-        + count_by (drives n) p.elements
-        + count_by (λ b. b.net == n) (read_bits p)
+    + count_by (is_net n) (port_bits p.inputs)
+    + count_by (drives n) p.elements
+    + count_by (λ b. b.net == n) (read_bits p)
 
 -- the nets that reset pins name
 abbrev pub reset_nets : Option Level → Option Level → List NetId
@@ -124,9 +124,9 @@ element_fits p other = true
 abbrev pub memory_fits : Memory → Bool
 memory_fits memory =
     nat_le memory.address_bits 16 && nat_lt 0 memory.width && nat_le memory.width 128
-        && nat_le (length memory.writes + length memory.reads) 16
-        && list_all (λ port. (length port.address == memory.address_bits) && (length port.feed == memory.width)) memory.writes
-        && list_all (λ port. (length port.address == memory.address_bits) && (length port.bits == memory.width)) memory.reads
+    && nat_le (length memory.writes + length memory.reads) 16
+    && list_all (λ port. (length port.address == memory.address_bits) && (length port.feed == memory.width)) memory.writes
+    && list_all (λ port. (length port.address == memory.address_bits) && (length port.bits == memory.width)) memory.reads
 
 abbrev pub is_memory : ℕ → Element → Bool
 is_memory n (element.Memory m) = m.place == n

@@ -26,8 +26,8 @@ abbrev pub ElementFollows : Valuation → Valuation → Element → Type 0
 ElementFollows v w (element.Gate op inputs output) = w.net output.place ≡ op_value op (values w inputs)
 ElementFollows v w (element.Flop f) =
     w.net f.q.place
-        ≡ unwrap_or (forced f.clear f.preset w)
-            (if has_edge v w f.clock f.rise then v.net f.feed.place else v.net f.q.place)
+    ≡ unwrap_or (forced f.clear f.preset w)
+    (if has_edge v w f.clock f.rise then v.net f.feed.place else v.net f.q.place)
 ElementFollows v w (element.Latch l) = w.net l.q.place ≡ unwrap_or (passed l w) (v.net l.q.place)
 ElementFollows v w (element.Memory m) = Unit {0}
 
@@ -41,7 +41,7 @@ abbrev pub written : Valuation → Valuation → List WritePort → ℕ → ℕ 
 written v w [] a old = old
 written v w (port ∷ ports) a old =
     written v w ports a
-        (if stores v w port && (shown_number v port.address == a) then shown_number v port.feed else old)
+    (if stores v w port && (shown_number v port.address == a) then shown_number v port.feed else old)
 
 -- the valuation `w` after an event that gives values to inputs, from the valuation `v` before it
 pub record IsAfter (p : Parts) (v : Valuation) (event : List PortBit) (w : Valuation) : Type 0 where
@@ -49,7 +49,7 @@ pub record IsAfter (p : Parts) (v : Valuation) (event : List PortBit) (w : Valua
   pub inputs : (n : ℕ) → n < net_count p → driver p n ≡ Input → w.net n ≡ unwrap_or (given event n) (v.net n)
   pub elements : (k : ℕ) (e : Element) → slice_get p.elements k ≡ Some e → ElementFollows v w e
   pub words : (m a : ℕ) (memory : Memory) → slice_get p.memories m ≡ Some memory → IsAddress p m a
-    → w.word m a ≡ written v w memory.writes a (v.word m a)
+      → w.word m a ≡ written v w memory.writes a (v.word m a)
   pub reads : ReadsHold p w
 
 -- each valuation is the one after the next event

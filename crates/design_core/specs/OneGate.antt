@@ -44,13 +44,13 @@ gate_path (Some name) = 1
 -- the constants, the two ports' nets, and one gate from the input's net to the output's
 abbrev pub one_gate_parts : OneGate → Parts
 one_gate_parts g =
-    record
-    { net_names =
-        top_name (codes "1'b0") ∷ top_name (codes "1'b1") ∷ map top_name (port_names g)
-    ; scopes = record { parent = None; name = g.top } ∷ gate_scope g.gate
-    ; elements = Gate (gate_op g) (net (input_net g) ∷ []) (net (output_net g)) ∷ []
-    ; paths = gate_path g.gate ∷ []
-    ; memories = []
-    ; inputs = record { name = g.input; nets = net (input_net g) ∷ [] } ∷ []
-    ; outputs = record { name = g.output; nets = net (output_net g) ∷ [] } ∷ []
+    record {
+      net_names =
+          top_name (codes "1'b0") ∷ top_name (codes "1'b1") ∷ map top_name (port_names g);
+      scopes = record { parent = None; name = g.top } ∷ gate_scope g.gate;
+      elements = Gate (gate_op g) (net (input_net g) ∷ []) (net (output_net g)) ∷ [];
+      paths = gate_path g.gate ∷ [];
+      memories = [];
+      inputs = record { name = g.input; nets = net (input_net g) ∷ [] } ∷ [];
+      outputs = record { name = g.output; nets = net (output_net g) ∷ [] } ∷ [];
     }

@@ -20,4 +20,4 @@ pub use node::NodeId;
 pub use one_gate::OneGate;
 pub use operation::Op;
 pub use parts::{NetName, Parts, Port, Scope};
-pub use values::{Placement, PortBit, PortValues};
+pub use values::{Event, Placement, PortBit, PortValues};

@@ -14,12 +14,26 @@ pub enum Thing {
 #[derive(Clone, Copy, Debug, Drop, PartialEq, Eq)]
 pub enum Place {
     /// The number of the netlist's chips.
-    Chips { modules: u32 },
-    Gate { chip: ChipId, gate: u32 },
+    Chips {
+        modules: u32,
+    },
+    Gate {
+        chip: ChipId,
+        gate: u32,
+    },
     /// A chip, with the weight of its gates and memories.
-    Weight { chip: ChipId, weight: u64 },
-    Frame { frame: u32 },
-    Action { frame: u32, slot: u32, action: u32 },
+    Weight {
+        chip: ChipId,
+        weight: u64,
+    },
+    Frame {
+        frame: u32,
+    },
+    Action {
+        frame: u32,
+        slot: u32,
+        action: u32,
+    },
     /// An action that uses a thing again.
     Again {
         frame: u32,
@@ -27,13 +41,25 @@ pub enum Place {
         action: u32,
         thing: Thing,
     },
-    Register { chip: ChipId, register: RegId },
-    Memory { chip: ChipId, mem: MemId },
+    Register {
+        chip: ChipId,
+        register: RegId,
+    },
+    Memory {
+        chip: ChipId,
+        mem: MemId,
+    },
     /// An input bit, by its net.
-    Input { net: NetId },
-    Element { elem: ElemId },
+    Input {
+        net: NetId,
+    },
+    Element {
+        elem: ElemId,
+    },
     /// An output bit, counted over the output ports in order.
-    Output { output: u32 },
+    Output {
+        output: u32,
+    },
     /// A register at the end of a frame.
     EndRegister {
         frame: u32,

@@ -14,7 +14,10 @@ pub enum Action {
         net: NetId,
     },
     /// The register takes its D; if it has an enable, only where the enable is 1.
-    Load { chip: ChipId, register: RegId },
+    Load {
+        chip: ChipId,
+        register: RegId,
+    },
     /// The register on the wire's far chip takes the value of a net on the near chip.
     Send {
         wire: WireId,
@@ -22,9 +25,17 @@ pub enum Action {
         register: RegId,
     },
     /// Where the port's enable is 1, the word at its address becomes its data.
-    Write { chip: ChipId, mem: MemId, port: u32 },
+    Write {
+        chip: ChipId,
+        mem: MemId,
+        port: u32,
+    },
     /// The port's read nets take the word at its address.
-    Read { chip: ChipId, mem: MemId, port: u32 },
+    Read {
+        chip: ChipId,
+        mem: MemId,
+        port: u32,
+    },
 }
 
 /// The actions of one slot.

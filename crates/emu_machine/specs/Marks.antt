@@ -1,0 +1,221 @@
+-- The marks "before" and "after" of nets, and the standing of memories, slot by slot.
+-- The rule is told in docs/RULES.md, "Marks".
+use Rattle.std.specs.Prelude.{◌≡◌, ◌+◌, ℕ, ◌==◌, ◌&&◌, ◌||◌, Bool, true, false, not, is_some, if◌then◌else◌, Option, Some, None, List, [], ◌∷◌, map, length, take, slice_get, position, unwrap_or, option_map, option_and_then, count_by}
+use Rattle.std.specs.List.{list_all}
+use Rattle.std.specs.Option.{option_map_or}
+use Rattle.id_arena.specs.declared.keys.ChipNetId.{ChipNetId}
+use Rattle.id_arena.specs.declared.wire.Wire.{Wire}
+use Rattle.design_core.specs.declared.node.NodeId.{NodeId}
+use Rattle.design_core.specs.declared.node.NodeId.TheVariants as node
+use Rattle.id_arena.specs.declared.keys.NetId.{NetId}
+use Rattle.design_core.specs.declared.element.Memory.{Memory}
+use Rattle.design_core.specs.declared.element.Element.{Element}
+use Rattle.design_core.specs.declared.element.Element.TheVariants as element
+use Rattle.design_core.specs.declared.element.Driver.{Driver}
+use Rattle.design_core.specs.declared.element.Driver.TheVariants as driven
+use Rattle.design_core.specs.declared.parts.Parts.{Parts}
+use Rattle.design_core.specs.Design.{driver}
+use Rattle.design_core.specs.Dependency.{write_nodes}
+use Rattle.design_core.specs.Valuation.{Valuation, IsAddress}
+use Rattle.design_core.specs.Event.{written}
+use Rattle.emu_machine.specs.declared.schedule.Action.{Action}
+use Rattle.emu_machine.specs.declared.schedule.Action.TheVariants.{Input, Load, Send, Write, Read}
+use Rattle.emu_machine.specs.declared.schedule.Slot.{Slot}
+use Rattle.emu_machine.specs.declared.map.Subject.{Subject}
+use Rattle.emu_machine.specs.declared.map.Subject.TheVariants.{Net, Up, Down, Take, Next, TakeWrite}
+use Rattle.emu_machine.specs.declared.results.Results.{Results}
+use Rattle.emu_machine.specs.Netlist.{chip_at, is_chip_net, through_gates}
+use Rattle.emu_machine.specs.State.{State, net_value, on_register, read_port, write_port, first_given}
+use Rattle.emu_machine.specs.Mapped.{subject, subject_value, memory_of, is_kept}
+
+-- A net that bears "before" shows its subject's value before the event; one that bears "after" shows
+-- its subject's value in the event.
+pub record Mark : Type 0 where
+  pub before : Bool
+  pub after : Bool
+
+abbrev pub no_mark : Mark
+no_mark = record { before = false; after = false }
+
+abbrev pub both_marks : Mark
+both_marks = record { before = true; after = true }
+
+abbrev pub only_before : Mark
+only_before = record { before = true; after = false }
+
+abbrev pub only_after : Mark
+only_after = record { before = false; after = true }
+
+abbrev pub after_if : Bool → Mark
+after_if b = record { before = false; after = b }
+
+abbrev pub has_some : Mark → Bool
+has_some m = m.before || m.after
+
+abbrev pub all_before : List Mark → Bool
+all_before = list_all (λ m. m.before)
+
+abbrev pub all_after : List Mark → Bool
+all_after = list_all (λ m. m.after)
+
+-- What the marks rest on: by chip and net, the marks of registers and read nets; by chip and memory,
+-- how many write ports are done, whether the memory is broken, and whether any write stood before.
+pub record MarkState : Type 0 where
+  pub on : ℕ → ℕ → Mark
+  pub standing : ℕ → ℕ → ℕ
+  pub broken : ℕ → ℕ → Bool
+  pub wrote : ℕ → ℕ → Bool
+
+-- a net of the design that the event cannot change has both marks where it has one
+abbrev pub widened : (NodeId → Bool) → Option Subject → Mark → Mark
+widened inside (Some (Net n)) m = if has_some m && not (inside (node.Net n)) then both_marks else m
+widened inside other m = m
+
+-- A latch gate reads its gate, its data, its hold and its resets. It has "before" where all of these
+-- have it, and "after" where all but the hold have it and the hold has a mark.
+abbrev pub latch_mark : List Mark → Mark
+latch_mark (gate ∷ feed ∷ hold ∷ resets) =
+    record {
+      before = all_before (gate ∷ feed ∷ hold ∷ resets);
+      after = gate.after && feed.after && all_after resets && has_some hold;
+    }
+latch_mark other = no_mark
+
+-- a gate of the design has each mark that all its inputs have
+abbrev pub copied_mark : List Mark → Mark
+copied_mark ms = record { before = all_before ms; after = all_after ms }
+
+abbrev pub element_mark : Option Element → List Mark → Mark
+element_mark (Some (element.Gate op inputs output)) ms = copied_mark ms
+element_mark (Some (element.Latch l)) ms = latch_mark ms
+element_mark other ms = no_mark
+
+-- the gate of a constant has both marks
+abbrev pub driver_mark : Parts → Driver → List Mark → Mark
+driver_mark p (driven.Constant b) ms = both_marks
+driver_mark p (driven.Elem e) ms = element_mark (slice_get p.elements e.place) ms
+driver_mark p other ms = no_mark
+
+-- an edge gate has "after" where its first input has "before" and its second "after"
+abbrev pub edge_mark : List Mark → Mark
+edge_mark (prev ∷ now ∷ []) = after_if (prev.before && now.after)
+edge_mark other = no_mark
+
+-- a next gate has "after" where its data has "before" and its resets have "after"
+abbrev pub next_mark : List Mark → Mark
+next_mark (feed ∷ resets) = after_if (feed.before && all_after resets)
+next_mark other = no_mark
+
+-- a write take gate has "after" where its edge has "after" and its enable "before"
+abbrev pub write_take_mark : List Mark → Mark
+write_take_mark (edge ∷ enable ∷ []) = after_if (edge.after && enable.before)
+write_take_mark other = no_mark
+
+-- the mark of a gate, by the subject of its output and the marks of its inputs in order
+abbrev pub gate_mark : Parts → Option Subject → List Mark → Mark
+gate_mark p (Some (Net n)) ms = driver_mark p (driver p n.place) ms
+gate_mark p (Some (Up n)) ms = edge_mark ms
+gate_mark p (Some (Down n)) ms = edge_mark ms
+gate_mark p (Some (Take e)) ms = after_if (all_after ms)
+gate_mark p (Some (Next e)) ms = next_mark ms
+gate_mark p (Some (TakeWrite m k)) ms = write_take_mark ms
+gate_mark p None ms = no_mark
+
+-- the marks of a net of a chip
+abbrev pub net_mark : Parts → Results → (NodeId → Bool) → MarkState → ℕ → ℕ → Mark
+net_mark p r inside s c n =
+    through_gates (chip_at r.net c)
+    (λ k. widened inside (subject r c k) (s.on c k))
+    (λ gate ms. widened inside (subject r c gate.output.place) (gate_mark p (subject r c gate.output.place) ms))
+    n
+
+abbrev pub net_marks : Parts → Results → (NodeId → Bool) → MarkState → ℕ → List ChipNetId → List Mark
+net_marks p r inside s c nets = map (λ n. net_mark p r inside s c n.place) nets
+
+-- how many write ports the design's memory has, and how many of them the event cannot reach
+abbrev pub design_writes : Parts → ℕ → List NodeId
+design_writes p m = option_map_or (λ memory. write_nodes (record { place = m }) memory) (slice_get p.memories m) []
+
+abbrev pub writes_of : Parts → Results → ℕ → ℕ → List NodeId
+writes_of p r c m = option_map_or (design_writes p) (memory_of r c m) []
+
+-- at the start of a frame what is kept has "before", and a memory stands at the writes outside the influence
+abbrev pub start_marks : Parts → Results → (NodeId → Bool) → MarkState
+start_marks p r inside =
+    record {
+      on = λ c n. if is_kept r c n then only_before else no_mark;
+      standing = λ c m. count_by (λ a. not (inside a)) (writes_of p r c m);
+      broken = λ c m. false;
+      wrote = λ c m. false;
+    }
+
+-- A load of a register without enable gives it D's marks. With an enable it gives "after" alone, where
+-- D and the enable have "after" and the register had a mark; else none.
+abbrev pub load_mark : (ChipNetId → Mark) → ChipNetId → Option ChipNetId → Option ChipNetId → Option Mark
+load_mark mark q None enable = None
+load_mark mark q (Some d) None = Some (mark d)
+load_mark mark q (Some d) (Some enable) =
+    Some (after_if ((mark d).after && (mark enable).after && has_some (mark q)))
+
+-- A read gives "after" where the address has "after" and all writes are done and unbroken, and "before"
+-- where the address has "before" and no write stood in an earlier slot.
+abbrev pub read_mark : MarkState → ℕ → ℕ → ℕ → List Mark → Mark
+read_mark s writes c m address =
+    record {
+      before = all_before address && not (s.wrote c m);
+      after = all_after address && not (s.broken c m) && (s.standing c m == writes);
+    }
+
+-- the mark that an action gives to net `n` of chip `c`, if it gives one; all is read from `s`
+abbrev pub action_mark : Parts → Results → List Wire → (NodeId → Bool) → MarkState → Action → ℕ → ℕ → Option Mark
+action_mark p r wires inside s (Input chip register net) c n =
+    on_register r.net chip.place register.place (λ q. Some only_after) c n
+action_mark p r wires inside s (Load chip register) c n =
+    on_register r.net chip.place register.place (λ q. load_mark (λ m. net_mark p r inside s chip.place m.place) q.q q.d q.enable) c n
+action_mark p r wires inside s (Send wire net register) c n =
+    option_and_then (λ ends. on_register r.net ends.to register.place (λ q. Some (net_mark p r inside s ends.from net.place)) c n) (slice_get wires wire.place)
+action_mark p r wires inside s (Write chip mem port) c n = None
+action_mark p r wires inside s (Read chip mem port) c n =
+    if chip.place == c
+    then option_and_then (λ q. option_map (λ b. read_mark s (length (writes_of p r c mem.place)) c mem.place (net_marks p r inside s c q.address)) (position (is_chip_net n) q.bits)) (read_port r.net c mem.place port)
+    else None
+
+-- the write port of memory `m` of chip `c` that an action uses, if it uses one
+abbrev pub port_written : ℕ → ℕ → Action → Option ℕ
+port_written c m (Write chip mem port) = if (chip.place == c) && (mem.place == m) then Some port else None
+port_written c m other = None
+
+-- a write counts where its port is the next one due, its enable has "after", and its address and data have "before"
+abbrev pub write_counts : Parts → Results → (NodeId → Bool) → MarkState → ℕ → ℕ → ℕ → Bool
+write_counts p r inside s c m k =
+    (k == s.standing c m)
+    && option_map_or
+    (λ w. (net_mark p r inside s c w.enable.place).after && all_before (net_marks p r inside s c w.address) && all_before (net_marks p r inside s c w.feed))
+    (write_port r.net c m k)
+    false
+
+-- the marks at the end of a slot
+abbrev pub marks_step : Parts → Results → List Wire → (NodeId → Bool) → List Action → MarkState → MarkState
+marks_step p r wires inside actions s =
+    record {
+      on = λ c n. unwrap_or (first_given (λ a. action_mark p r wires inside s a c n) actions) (s.on c n);
+      standing = λ c m. option_map_or (λ k. if write_counts p r inside s c m k then s.standing c m + 1 else s.standing c m) (first_given (port_written c m) actions) (s.standing c m);
+      broken = λ c m. s.broken c m || option_map_or (λ k. not (write_counts p r inside s c m k)) (first_given (port_written c m) actions) false;
+      wrote = λ c m. s.wrote c m || is_some (first_given (port_written c m) actions);
+    }
+
+-- the marks after some slots
+abbrev pub marks_after : Parts → Results → List Wire → (NodeId → Bool) → List Slot → MarkState → MarkState
+marks_after p r wires inside [] s = s
+marks_after p r wires inside (slot ∷ slots) s =
+    marks_after p r wires inside slots (marks_step p r wires inside slot.actions s)
+
+-- The marks are true of a state, in an event from `v` to `w`: each net that bears one shows what the mark
+-- says; each memory that is not broken holds the words after as many write ports as its standing tells;
+-- and each input's outside value is that after the event.
+pub record TrueMarks (p : Parts) (r : Results) (inside : NodeId → Bool) (v w : Valuation) (s : MarkState) (x : State) : Type 0 where
+  pub before : (c n : ℕ) (m : NetId) → subject r c n ≡ Some (Net m) → (net_mark p r inside s c n).before ≡ true → net_value r.net x c n ≡ v.net m.place
+  pub after : (c n : ℕ) (what : Subject) → subject r c n ≡ Some what → (net_mark p r inside s c n).after ≡ true → net_value r.net x c n ≡ subject_value p v w what
+  pub words : (c m of a : ℕ) (memory : Memory) → memory_of r c m ≡ Some of → slice_get p.memories of ≡ Some memory → IsAddress p of a → s.broken c m ≡ false
+      → x.word c m a ≡ written v w (take (s.standing c m) memory.writes) a (v.word of a)
+  pub outside : (n : ℕ) → driver p n ≡ driven.Input → x.outside n ≡ w.net n
