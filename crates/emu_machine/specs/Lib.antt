@@ -5,4 +5,5 @@ pub mod Marks
 pub mod Origins
 pub mod Acceptance
 pub mod Headline
+pub mod Law
 pub mod OneAction
