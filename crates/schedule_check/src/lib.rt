@@ -1,0 +1,11 @@
+//! The judge of results, which trusts nothing of how they were made.
+//!
+//! So far it judges the plainest results: those of one gate and one register on one chip, with one
+//! frame of one action. Its contract is that it says yes exactly where the rules A1 to A12 hold, and
+//! that a yes means the headline: the machine agrees with the design after every event, for every
+//! opening and every list of events.
+#![tactic(auto)]
+
+mod one_gate;
+
+pub use one_gate::{accepted_agrees, is_accepted};
