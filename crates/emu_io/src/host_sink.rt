@@ -38,3 +38,18 @@ impl<R: Print + Drop> Sink for HostSink<R> {
         Err(StoreFault::Failed)
     }
 }
+
+#[cfg(test)]
+mod tests {
+    use super::*;
+    use std::test::Fail;
+
+    #[test]
+    fn standard_output_takes_bytes(rt: HostRuntime) -> Result<(), Fail> {
+        let mut sink = HostSink::new(rt);
+        sink.put(b"printed\n")?;
+        sink.put(b"")?;
+        assert_eq!(rt; sink.faults, 0);
+        Ok(())
+    }
+}

@@ -171,3 +171,34 @@ impl Files for MemFiles {
         Ok(())
     }
 }
+
+#[cfg(test)]
+mod tests {
+    use super::*;
+    use std::test::Fail;
+
+    #[test]
+    fn chosen_calls_fail(rt: HostRuntime) -> Result<(), Fail> {
+        let alloc = rt.alloc();
+        let mut files = MemFiles::new(alloc, &[3, 1])?;
+        let name = Text::from_bytes(alloc, b"d.v")?;
+        let absent = Text::from_bytes(alloc, b"d")?;
+        files.hold(&name, b"old")?;
+
+        // Calls 0 to 4: a fetch, a failing store, a missing name, a failing fetch, a limit.
+        assert_eq!(rt; files.fetch(alloc, &name, 3)?.as_slice(), b"old".as_slice());
+        assert_eq!(rt; files.store(&name, b"abcde"), Err(StoreFault::Failed));
+        assert_eq!(rt; files.held(&name), Some(b"ab".as_slice()));
+        assert_eq!(rt; (files.read_faults, files.store_faults), (0, 1));
+        assert!(rt; matches!(files.fetch(alloc, &absent, 9), Err(FetchFault::Missing)));
+        assert!(rt; matches!(files.fetch(alloc, &name, 9), Err(FetchFault::Failed)));
+        assert_eq!(rt; (files.read_faults, files.store_faults), (1, 1));
+        assert!(rt; matches!(files.fetch(alloc, &name, 1), Err(FetchFault::TooLarge)));
+
+        files.store(&absent, b"new")?;
+        assert_eq!(rt; files.held(&absent), Some(b"new".as_slice()));
+        assert_eq!(rt; files.held(&name), Some(b"ab".as_slice()));
+        assert_eq!(rt; (files.read_faults, files.store_faults), (1, 1));
+        Ok(())
+    }
+}
