@@ -178,27 +178,37 @@ mod tests {
     use std::test::Fail;
 
     #[test]
-    fn chosen_calls_fail(rt: HostRuntime) -> Result<(), Fail> {
-        let alloc = rt.alloc();
-        let mut files = MemFiles::new(alloc, &[3, 1])?;
-        let name = Text::from_bytes(alloc, b"d.v")?;
-        let absent = Text::from_bytes(alloc, b"d")?;
-        files.hold(&name, b"old")?;
-
-        // Calls 0 to 4: a fetch, a failing store, a missing name, a failing fetch, a limit.
-        assert_eq!(rt; files.fetch(alloc, &name, 3)?.as_slice(), b"old".as_slice());
+    fn a_failing_store_leaves_the_first_half(rt: HostRuntime) -> Result<(), Fail> {
+        let mut files = MemFiles::new(rt.alloc(), &[1])?;
+        let name = Text::from_bytes(rt.alloc(), b"d.v")?;
+        files.store(&name, b"old")?;
         assert_eq!(rt; files.store(&name, b"abcde"), Err(StoreFault::Failed));
         assert_eq!(rt; files.held(&name), Some(b"ab".as_slice()));
         assert_eq!(rt; (files.read_faults, files.store_faults), (0, 1));
-        assert!(rt; matches!(files.fetch(alloc, &absent, 9), Err(FetchFault::Missing)));
-        assert!(rt; matches!(files.fetch(alloc, &name, 9), Err(FetchFault::Failed)));
-        assert_eq!(rt; (files.read_faults, files.store_faults), (1, 1));
-        assert!(rt; matches!(files.fetch(alloc, &name, 1), Err(FetchFault::TooLarge)));
+        Ok(())
+    }
 
-        files.store(&absent, b"new")?;
-        assert_eq!(rt; files.held(&absent), Some(b"new".as_slice()));
-        assert_eq!(rt; files.held(&name), Some(b"ab".as_slice()));
-        assert_eq!(rt; (files.read_faults, files.store_faults), (1, 1));
+    #[test]
+    fn a_failing_fetch_raises_one_count(rt: HostRuntime) -> Result<(), Fail> {
+        let mut files = MemFiles::new(rt.alloc(), &[0])?;
+        let name = Text::from_bytes(rt.alloc(), b"d.v")?;
+        files.hold(&name, b"text")?;
+        assert!(rt; matches!(files.fetch(rt.alloc(), &name, 9), Err(FetchFault::Failed)));
+        assert_eq!(rt; (files.read_faults, files.store_faults), (1, 0));
+        assert!(rt; files.blamed == Some(name));
+        Ok(())
+    }
+
+    #[test]
+    fn names_and_limits_are_kept(rt: HostRuntime) -> Result<(), Fail> {
+        let mut files = MemFiles::new(rt.alloc(), &[])?;
+        let name = Text::from_bytes(rt.alloc(), b"d.v")?;
+        let absent = Text::from_bytes(rt.alloc(), b"d")?;
+        files.hold(&name, b"text")?;
+        assert!(rt; matches!(files.fetch(rt.alloc(), &absent, 9), Err(FetchFault::Missing)));
+        assert!(rt; matches!(files.fetch(rt.alloc(), &name, 3), Err(FetchFault::TooLarge)));
+        assert_eq!(rt; files.fetch(rt.alloc(), &name, 4)?.as_slice(), b"text".as_slice());
+        assert_eq!(rt; files.read_faults, 0);
         Ok(())
     }
 }
