@@ -24,8 +24,8 @@ pub struct HostFiles<R: RuntimeFiles + Drop> {
 impl<R: RuntimeFiles + Drop> HostFiles<R> {
     /// The files that the runtime reaches. Nothing failed yet.
     pub fn new(rt: R) -> HostFiles<R>
-        ensures reads { result.read_faults ≡ 0 }
-        ensures stores { result.store_faults ≡ 0 }
+        ensures reads { ⟦<HostFiles<R> as Files>⟧.read_faults result ≡ 0 }
+        ensures stores { ⟦<HostFiles<R> as Files>⟧.store_faults result ≡ 0 }
     {
         HostFiles {
             rt,
@@ -126,7 +126,10 @@ mod tests {
         let name = Text::from_bytes(rt.alloc(), b"emu_io_test_file")?;
         files.store(&name, b"first text")?;
         files.store(&name, b"text")?;
-        assert_eq!(rt; files.fetch(rt.alloc(), &name, 4)?.as_slice(), b"text".as_slice());
+        assert_eq!(rt;
+            files.fetch(rt.alloc(), &name, 4)?.as_slice(),
+            b"text".as_slice()
+        );
         assert!(rt; matches!(files.fetch(rt.alloc(), &name, 3), Err(FetchFault::TooLarge)));
         fs::remove_file(&rt, "emu_io_test_file")?;
         assert!(rt; matches!(files.fetch(rt.alloc(), &name, 4), Err(FetchFault::Missing)));

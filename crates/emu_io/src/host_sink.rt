@@ -17,7 +17,7 @@ pub struct HostSink<R: Print + Drop> {
 impl<R: Print + Drop> HostSink<R> {
     /// The standard output that the runtime reaches. Nothing failed yet.
     pub fn new(rt: R) -> HostSink<R>
-        ensures { result.faults ≡ 0 }
+        ensures { ⟦<HostSink<R> as Sink>⟧.faults result ≡ 0 }
     {
         HostSink { rt, faults: 0 }
     }

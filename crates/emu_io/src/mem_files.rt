@@ -205,9 +205,17 @@ mod tests {
         let name = Text::from_bytes(rt.alloc(), b"d.v")?;
         let absent = Text::from_bytes(rt.alloc(), b"d")?;
         files.hold(&name, b"text")?;
-        assert!(rt; matches!(files.fetch(rt.alloc(), &absent, 9), Err(FetchFault::Missing)));
+        assert!(rt;
+            matches!(
+                files.fetch(rt.alloc(), &absent, 9),
+                Err(FetchFault::Missing)
+            )
+        );
         assert!(rt; matches!(files.fetch(rt.alloc(), &name, 3), Err(FetchFault::TooLarge)));
-        assert_eq!(rt; files.fetch(rt.alloc(), &name, 4)?.as_slice(), b"text".as_slice());
+        assert_eq!(rt;
+            files.fetch(rt.alloc(), &name, 4)?.as_slice(),
+            b"text".as_slice()
+        );
         assert_eq!(rt; files.read_faults, 0);
         Ok(())
     }

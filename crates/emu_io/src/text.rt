@@ -103,7 +103,13 @@ mod tests {
     #[test]
     fn texts_are_ordered_by_bytes(rt: HostRuntime) -> Result<(), Fail> {
         let mut sorted = Vec::new(rt.alloc());
-        for bytes in [b"".as_slice(), b"a".as_slice(), b"a-".as_slice(), b"b".as_slice(), &[255]] {
+        for bytes in [
+            b"".as_slice(),
+            b"a".as_slice(),
+            b"a-".as_slice(),
+            b"b".as_slice(),
+            &[255],
+        ] {
             sorted.push(Text::from_bytes(rt.alloc(), bytes)?)?;
         }
         for (at, text) in sorted.iter().enumerate() {
