@@ -24,8 +24,8 @@ pub struct HostFiles<R: RuntimeFiles + Drop> {
 impl<R: RuntimeFiles + Drop> HostFiles<R> {
     /// The files that the runtime reaches. Nothing failed yet.
     pub fn new(rt: R) -> HostFiles<R>
-        ensures reads { result.read_faults ≡ 0 }
-        ensures stores { result.store_faults ≡ 0 }
+        ensures reads { ⟦<HostFiles<R> as Files>⟧.read_faults result ≡ 0 }
+        ensures stores { ⟦<HostFiles<R> as Files>⟧.store_faults result ≡ 0 }
     {
         HostFiles {
             rt,
@@ -111,5 +111,39 @@ fn write_file<R: RuntimeFiles>(rt: &R, name: &Word, bytes: &[u8]) -> bool {
     match str::from_utf8(name.bytes()) {
         Ok(path) => fs::write(rt, path, bytes).is_ok(),
         Err(_) => false,
+    }
+}
+
+#[cfg(test)]
+mod tests {
+    use super::*;
+    use crate::Text;
+    use std::test::Fail;
+
+    #[test]
+    fn a_stored_file_comes_back(rt: HostRuntime) -> Result<(), Fail> {
+        let mut files = HostFiles::new(rt);
+        let name = Text::from_bytes(rt.alloc(), b"emu_io_test_file")?;
+        files.store(&name, b"first text")?;
+        files.store(&name, b"text")?;
+        assert_eq!(rt;
+            files.fetch(rt.alloc(), &name, 4)?.as_slice(),
+            b"text".as_slice()
+        );
+        assert!(rt; matches!(files.fetch(rt.alloc(), &name, 3), Err(FetchFault::TooLarge)));
+        fs::remove_file(&rt, "emu_io_test_file")?;
+        assert!(rt; matches!(files.fetch(rt.alloc(), &name, 4), Err(FetchFault::Missing)));
+        assert_eq!(rt; (files.read_faults, files.store_faults), (2, 0));
+        Ok(())
+    }
+
+    #[test]
+    fn a_folder_is_no_file(rt: HostRuntime) -> Result<(), Fail> {
+        let mut files = HostFiles::new(rt);
+        let folder = Text::from_bytes(rt.alloc(), b".")?;
+        assert!(rt; matches!(files.fetch(rt.alloc(), &folder, 4), Err(FetchFault::Failed)));
+        assert_eq!(rt; files.store(&folder, b"text"), Err(StoreFault::Failed));
+        assert_eq!(rt; (files.read_faults, files.store_faults), (1, 1));
+        Ok(())
     }
 }

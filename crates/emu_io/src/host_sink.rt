@@ -17,7 +17,7 @@ pub struct HostSink<R: Print + Drop> {
 impl<R: Print + Drop> HostSink<R> {
     /// The standard output that the runtime reaches. Nothing failed yet.
     pub fn new(rt: R) -> HostSink<R>
-        ensures { result.faults ≡ 0 }
+        ensures { ⟦<HostSink<R> as Sink>⟧.faults result ≡ 0 }
     {
         HostSink { rt, faults: 0 }
     }
@@ -36,5 +36,20 @@ impl<R: Print + Drop> Sink for HostSink<R> {
         }
         self.faults = self.faults.saturating_add(1);
         Err(StoreFault::Failed)
+    }
+}
+
+#[cfg(test)]
+mod tests {
+    use super::*;
+    use std::test::Fail;
+
+    #[test]
+    fn standard_output_takes_bytes(rt: HostRuntime) -> Result<(), Fail> {
+        let mut sink = HostSink::new(rt);
+        sink.put(b"printed\n")?;
+        sink.put(b"")?;
+        assert_eq!(rt; sink.faults, 0);
+        Ok(())
     }
 }

@@ -98,3 +98,27 @@ impl<T: Drop> List<T> {
         self.items[place as usize] = item;
     }
 }
+
+#[cfg(test)]
+mod tests {
+    use super::*;
+    use std::test::Fail;
+
+    #[test]
+    fn items_are_kept_in_order(rt: HostRuntime) -> Result<(), Fail> {
+        let mut list = List::new(rt.alloc());
+        assert!(rt; list.is_empty());
+        for item in [5, 7, 9] {
+            list.push(item)?;
+        }
+        assert_eq!(rt; list.len(), 3);
+        assert_eq!(rt; *list.get(2), 9);
+        list.set(0, 4);
+        assert_eq!(rt; list.as_slice(), [4, 7, 9].as_slice());
+        assert_eq!(rt; list.pop(), Some(9));
+        assert_eq!(rt; list.pop(), Some(7));
+        assert_eq!(rt; list.pop(), Some(4));
+        assert_eq!(rt; list.pop(), None);
+        Ok(())
+    }
+}

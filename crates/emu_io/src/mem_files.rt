@@ -171,3 +171,52 @@ impl Files for MemFiles {
         Ok(())
     }
 }
+
+#[cfg(test)]
+mod tests {
+    use super::*;
+    use std::test::Fail;
+
+    #[test]
+    fn a_failing_store_leaves_the_first_half(rt: HostRuntime) -> Result<(), Fail> {
+        let mut files = MemFiles::new(rt.alloc(), &[1])?;
+        let name = Text::from_bytes(rt.alloc(), b"d.v")?;
+        files.store(&name, b"old")?;
+        assert_eq!(rt; files.store(&name, b"abcde"), Err(StoreFault::Failed));
+        assert_eq!(rt; files.held(&name), Some(b"ab".as_slice()));
+        assert_eq!(rt; (files.read_faults, files.store_faults), (0, 1));
+        Ok(())
+    }
+
+    #[test]
+    fn a_failing_fetch_raises_one_count(rt: HostRuntime) -> Result<(), Fail> {
+        let mut files = MemFiles::new(rt.alloc(), &[0])?;
+        let name = Text::from_bytes(rt.alloc(), b"d.v")?;
+        files.hold(&name, b"text")?;
+        assert!(rt; matches!(files.fetch(rt.alloc(), &name, 9), Err(FetchFault::Failed)));
+        assert_eq!(rt; (files.read_faults, files.store_faults), (1, 0));
+        assert!(rt; files.blamed == Some(name));
+        Ok(())
+    }
+
+    #[test]
+    fn names_and_limits_are_kept(rt: HostRuntime) -> Result<(), Fail> {
+        let mut files = MemFiles::new(rt.alloc(), &[])?;
+        let name = Text::from_bytes(rt.alloc(), b"d.v")?;
+        let absent = Text::from_bytes(rt.alloc(), b"d")?;
+        files.hold(&name, b"text")?;
+        assert!(rt;
+            matches!(
+                files.fetch(rt.alloc(), &absent, 9),
+                Err(FetchFault::Missing)
+            )
+        );
+        assert!(rt; matches!(files.fetch(rt.alloc(), &name, 3), Err(FetchFault::TooLarge)));
+        assert_eq!(rt;
+            files.fetch(rt.alloc(), &name, 4)?.as_slice(),
+            b"text".as_slice()
+        );
+        assert_eq!(rt; files.read_faults, 0);
+        Ok(())
+    }
+}

@@ -99,3 +99,21 @@ impl Sink for MemSink {
         Ok(())
     }
 }
+
+#[cfg(test)]
+mod tests {
+    use super::*;
+    use std::test::Fail;
+
+    #[test]
+    fn a_chosen_put_appends_the_first_half(rt: HostRuntime) -> Result<(), Fail> {
+        let mut sink = MemSink::new(rt.alloc(), &[1])?;
+        sink.put(b"one ")?;
+        assert_eq!(rt; sink.put(b"three"), Err(StoreFault::Failed));
+        assert_eq!(rt; sink.written(), b"one th".as_slice());
+        sink.put(b"!")?;
+        assert_eq!(rt; sink.written(), b"one th!".as_slice());
+        assert_eq!(rt; sink.faults, 1);
+        Ok(())
+    }
+}

@@ -94,3 +94,30 @@ impl Ord for Text {
         self.bytes().cmp(other.bytes())
     }
 }
+
+#[cfg(test)]
+mod tests {
+    use super::*;
+    use std::test::Fail;
+
+    #[test]
+    fn texts_are_ordered_by_bytes(rt: HostRuntime) -> Result<(), Fail> {
+        let mut sorted = Vec::new(rt.alloc());
+        for bytes in [
+            b"".as_slice(),
+            b"a".as_slice(),
+            b"a-".as_slice(),
+            b"b".as_slice(),
+            &[255],
+        ] {
+            sorted.push(Text::from_bytes(rt.alloc(), bytes)?)?;
+        }
+        for (at, text) in sorted.iter().enumerate() {
+            for (other_at, other) in sorted.iter().enumerate() {
+                assert_eq!(rt; text.cmp(other), at.cmp(&other_at));
+                assert_eq!(rt; text == other, at == other_at);
+            }
+        }
+        Ok(())
+    }
+}
