@@ -1,13 +1,19 @@
-// A library with one function.
+//! The board: chips with their rooms, the wires between them, and the most slots of a frame.
+//!
+//! `read_board` gives the board that a text stands for, or the first fault of the text, exactly.
+//! Every `Board` has its counts within the limits, and each of its wires joins two of its chips;
+//! its readers take no memory.
 #![tactic(auto)]
 
-ghost use Rattle.std.specs.Prelude.{◌≡◌};
-ghost use Rattle.board_model.specs.Echo.{echo_of};
+mod board;
+mod fault;
+mod form;
+mod reader;
+mod wire;
 
-// The `ensures` clause is the contract: what `echo` returns is `echo_of` of its argument, a definition
-// in `specs/Echo.antt`, which a caller's clause can cite too.
-pub fn echo(x: usize) -> usize
-    ensures { result ≡ echo_of x }
-{
-    x
-}
+pub use board::Board;
+pub use fault::BoardFault;
+pub use reader::{each_text_has_one_answer, read_board};
+
+#[cfg(test)]
+mod tests;

@@ -10,3 +10,6 @@ mod text;
 
 pub use members::{array_member, number_member, number_of, word_member, word_of};
 pub use text::{JsonFault, read_json};
+
+#[cfg(test)]
+mod tests;
