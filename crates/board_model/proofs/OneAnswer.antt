@@ -4,9 +4,10 @@ use Rattle.std.proofs.lemmas.Option.{slice_get_within, same_Some}
 use Rattle.serde_json.specs.Data.{Data}
 use Rattle.serde_json.specs.Read.{read}
 use Rattle.json_members.specs.JsonText.{IsTextOf, IsNoJson}
-use Rattle.board_model.specs.declared.wire.Wire.{Wire}
+use Rattle.id_arena.specs.declared.wire.Wire.{Wire}
 use Rattle.board_model.specs.declared.fault.BoardFault.TheVariants.{NotJson, BadShape, Version, Limit, BadWire, NoMemory}
-use Rattle.board_model.specs.BoardPlan.{BoardPlan, IsWithinLimits, IsFirstBadWire, IsSound, joins}
+use Rattle.id_arena.specs.BoardPlan.{BoardPlan}
+use Rattle.board_model.specs.Sound.{IsWithinLimits, IsFirstBadWire, IsSound, joins}
 use Rattle.board_model.specs.Form.{HasForm}
 use Rattle.board_model.specs.Answers.{Says, HasBadShape, HasOtherVersion, StandsFor, IsBeyondLimits, HasBadWire, EachTextHasOneAnswer}
 

@@ -4,7 +4,8 @@ use Rattle.serde_json.specs.Data.{Data}
 use Rattle.json_members.specs.JsonText.{IsTextOf, IsNoJson}
 use Rattle.board_model.specs.declared.fault.BoardFault.{BoardFault}
 use Rattle.board_model.specs.declared.fault.BoardFault.TheVariants.{NotJson, BadShape, Version, Limit, BadWire, NoMemory}
-use Rattle.board_model.specs.BoardPlan.{BoardPlan, IsWithinLimits, IsFirstBadWire, IsSound}
+use Rattle.id_arena.specs.BoardPlan.{BoardPlan}
+use Rattle.board_model.specs.Sound.{IsWithinLimits, IsFirstBadWire, IsSound}
 use Rattle.board_model.specs.Form.{HasForm}
 
 -- the text is of version 1 and has the form, with these numbers

@@ -3,8 +3,8 @@
 use Rattle.std.specs.Prelude.{◌≡◌, ℕ, List, Option, Some, codes, option_and_then, option_map}
 use Rattle.serde_json.specs.Data.{Data}
 use Rattle.json_members.specs.Members.{number_member, array_member, each}
-use Rattle.board_model.specs.declared.wire.Wire.{Wire}
-use Rattle.board_model.specs.BoardPlan.{BoardPlan}
+use Rattle.id_arena.specs.declared.wire.Wire.{Wire}
+use Rattle.id_arena.specs.BoardPlan.{BoardPlan}
 
 -- a chip has a room of at most 2 ^ 40
 abbrev pub room_of : Data → Option ℕ

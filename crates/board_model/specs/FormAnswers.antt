@@ -5,7 +5,8 @@ use Rattle.json_members.specs.Members.{each}
 use Rattle.board_model.specs.declared.fault.BoardFault.{BoardFault}
 use Rattle.board_model.specs.declared.fault.BoardFault.TheVariants.{NotJson, BadShape, Version, Limit, BadWire, NoMemory}
 use Rattle.board_model.specs.declared.form.BoardForm.{BoardForm}
-use Rattle.board_model.specs.BoardPlan.{BoardPlan, IsSound, IsWithinLimits, IsFirstBadWire}
+use Rattle.id_arena.specs.BoardPlan.{BoardPlan}
+use Rattle.board_model.specs.Sound.{IsSound, IsWithinLimits, IsFirstBadWire}
 use Rattle.board_model.specs.Form.{HasForm}
 
 -- the numbers of a form as a plan

@@ -1,5 +1,5 @@
 pub mod Faults
-pub mod BoardPlan
+pub mod Sound
 pub mod Form
 pub mod FormAnswers
 pub mod Answers

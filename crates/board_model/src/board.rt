@@ -1,9 +1,8 @@
 //! The board and its readers.
 ghost use Rattle.std.specs.Prelude.{◌≡◌, ◌≢◌, ◌<◌, ◌≤◌, Some, length, slice_get};
 
-use crate::wire::Wire;
 use emu_io::List;
-use id_arena::{ChipId, Key, WireId};
+use id_arena::{ChipId, Key, Wire, WireId};
 use std::marker::Model;
 
 /// A board whose counts are within their limits and whose wires each join two different chips.
@@ -15,7 +14,8 @@ pub struct Board {
 }
 
 impl Model for Board {
-    ghost use Rattle.board_model.specs.BoardPlan.{BoardPlan, IsSound};
+    ghost use Rattle.id_arena.specs.BoardPlan.{BoardPlan};
+    ghost use Rattle.board_model.specs.Sound.{IsSound};
 
     ghost Value = { BoardPlan };
 
@@ -25,7 +25,7 @@ impl Model for Board {
 }
 
 impl Board {
-    ghost use Rattle.board_model.specs.BoardPlan.{IsSound};
+    ghost use Rattle.board_model.specs.Sound.{IsSound};
 
     /// The board of numbers that are already known to be sound. Takes no memory.
     pub(crate) fn from_parts(rooms: List<u64>, wires: List<Wire>, slots: u32) -> Board
@@ -39,8 +39,9 @@ impl Board {
         }
     }
 
-    /// The number of chips, 1 to 16.
+    /// The number of chips, 1 to 16. That every board is sound stands here for its callers.
     pub fn chips(&self) -> u32
+        ensures sound { IsSound self.now }
         ensures count { result ≡ length self.now.rooms }
         ensures some { 0 < result }
         ensures few { result ≤ 16 }

@@ -5,8 +5,8 @@ ghost use Rattle.board_model.specs.Form.{room_of, wire_of};
 ghost use Rattle.board_model.specs.FormAnswers.{FormAnswers, ListAnswers};
 
 use crate::fault::BoardFault;
-use crate::wire::Wire;
 use emu_io::List;
+use id_arena::Wire;
 use json_members::{array_member, number_member, word_member};
 use serde_json::Value;
 use std::alloc::Global;

@@ -9,7 +9,6 @@ mod board;
 mod fault;
 mod form;
 mod reader;
-mod wire;
 
 pub use board::Board;
 pub use fault::BoardFault;

@@ -1,14 +1,14 @@
 //! From a text to a board, or to the first fault.
 ghost use Rattle.std.specs.Prelude.{◌≡◌, ◌↔◌, IsTrue, MatchOption, length};
 ghost use Rattle.board_model.specs.Answers.{Answers, EachTextHasOneAnswer};
-ghost use Rattle.board_model.specs.BoardPlan.{BoardPlan, IsWithinLimits, IsFirstBadWire, FirstWiresJoin, joins};
+ghost use Rattle.id_arena.specs.BoardPlan.{BoardPlan};
+ghost use Rattle.board_model.specs.Sound.{IsWithinLimits, IsFirstBadWire, FirstWiresJoin, joins};
 ghost use Rattle.board_model.specs.FormAnswers.{plan_of, Judges};
 
 use crate::board::Board;
 use crate::fault::BoardFault;
 use crate::form::{BoardForm, read_form};
-use crate::wire::Wire;
-use id_arena::{Key, WireId};
+use id_arena::{Key, Wire, WireId};
 use json_members::read_json;
 use std::alloc::Global;
 

@@ -1,4 +1,4 @@
-use Rattle.board_model.specs.BoardPlan.{FirstWiresJoin}
+use Rattle.board_model.specs.Sound.{FirstWiresJoin}
 use Rattle.board_model.specs.FormAnswers.{plan_of}
 use Rattle.board_model.proofs.reader.first_bad_wire.Given as goal
 

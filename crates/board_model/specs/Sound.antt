@@ -1,12 +1,7 @@
--- A board as plain lists, and what holds of every board.
-use Rattle.std.specs.Prelude.{◌≡◌, ℕ, ◌<◌, ◌≤◌, ◌&&◌, ◌==◌, Bool, true, false, not, nat_lt, List, length, slice_get, Some}
-use Rattle.board_model.specs.declared.wire.Wire.{Wire}
-
--- the room of each chip, the wires by number, each from one chip to another, and the slots of a frame at most
-pub record BoardPlan : Type 0 where
-  pub rooms : List ℕ
-  pub wires : List Wire
-  pub slots : ℕ
+-- What holds of every board.
+use Rattle.std.specs.Prelude.{◌≡◌, ℕ, ◌<◌, ◌≤◌, ◌&&◌, ◌==◌, Bool, true, false, not, nat_lt, length, slice_get, Some}
+use Rattle.id_arena.specs.declared.wire.Wire.{Wire}
+use Rattle.id_arena.specs.BoardPlan.{BoardPlan}
 
 -- the counts are within their limits: 1 to 16 chips, at most 4,096 wires, 1 to 65,535 slots
 pub record IsWithinLimits (plan : BoardPlan) : Type 0 where
