@@ -1,0 +1,5 @@
+pub mod Faults
+pub mod Sound
+pub mod Form
+pub mod FormAnswers
+pub mod Answers

@@ -1,0 +1,49 @@
+//! Numbers, lists and members of objects.
+ghost use Rattle.std.specs.Prelude.{◌≡◌, ◌≤◌, IfSome, option_map};
+ghost use Rattle.serde_json.specs.View.{view, items_view};
+ghost use Rattle.json_members.specs.Members.{array_member, number_member, number_of};
+
+use serde_json::Value;
+
+/// The number that a value is: whole, without sign, point or exponent, and at most `most`.
+pub fn number_of(value: &Value, most: u64) -> Option<u64>
+    ensures value { result ≡ number_of most (view value.now) }
+    ensures within { IfSome result (λ number. number ≤ most) }
+{
+    value.as_u64().filter(|number| *number <= most)
+}
+
+/// The number that is an object's member under `key`.
+pub fn number_member(value: &Value, key: &str, most: u64) -> Option<u64>
+    ensures value { result ≡ number_member key.now most (view value.now) }
+    ensures within { IfSome result (λ number. number ≤ most) }
+{
+    let member = value.get(key)?;
+    number_of(member, most)
+}
+
+/// The number of 32 bits that a value is.
+pub fn word_of(value: &Value) -> Option<u32>
+    ensures { result ≡ number_of 4294967295 (view value.now) }
+{
+    let number = number_of(value, 4_294_967_295)?;
+    Some(number as u32)
+}
+
+/// The number of 32 bits that is an object's member under `key`.
+pub fn word_member(value: &Value, key: &str) -> Option<u32>
+    ensures { result ≡ number_member key.now 4294967295 (view value.now) }
+{
+    let number = number_member(value, key, 4_294_967_295)?;
+    Some(number as u32)
+}
+
+/// The list that is an object's member under `key`.
+pub fn array_member<'v>(value: &'v Value, key: &str) -> Option<&'v [Value]>
+    ensures { option_map (λ items. items_view items.now) result
+        ≡ array_member key.now (view value.now) }
+{
+    let member = value.get(key)?;
+    let items = member.as_array()?;
+    Some(items.as_slice())
+}
