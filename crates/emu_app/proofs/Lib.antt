@@ -1,0 +1,2 @@
+pub mod NineWords
+pub mod Fetches

@@ -1,0 +1,3 @@
+pub mod What
+pub mod Command
+pub mod Fetching
