@@ -1,5 +1,5 @@
 -- What a token says: what it is, and the bytes of a name.
-use Rattle.std.specs.Prelude.{map, ℕ, List, []}
+use Rattle.std.specs.Prelude.{map, ℕ, List, [], option_map, slice_get, unwrap_or}
 use Rattle.std.specs.List.{slice_range}
 use Rattle.verilog_lex.specs.declared.token.Token.{Token}
 use Rattle.verilog_lex.specs.declared.token.TokenKind.{TokenKind}
@@ -45,3 +45,11 @@ word_of source token = record { kind = token.kind; name = name_of source token }
 
 abbrev pub words_of : List ℕ → List Token → List Word
 words_of source tokens = map (word_of source) tokens
+
+-- what the tokens are
+abbrev pub kinds_of : List Token → List TokenKind
+kinds_of tokens = map (λ t. t.kind) tokens
+
+-- the bytes of the name at a place, none where no name is there
+abbrev pub name_at : List Word → ℕ → List ℕ
+name_at words place = unwrap_or (option_map (λ w. w.name) (slice_get words place)) []

@@ -1,8 +1,8 @@
 //! Reading the words of a list of tokens.
 
-ghost use Rattle.std.specs.Prelude.{◌↔◌, ◌<◌, ◌≡◌, IsTrue, Some, length, map, slice_get};
+ghost use Rattle.std.specs.Prelude.{◌↔◌, ◌<◌, ◌≡◌, IsTrue, Some, length, slice_get};
 ghost use Rattle.std.specs.List.{slice_range};
-ghost use Rattle.token_words.specs.Words.{name_of, word_of, words_of};
+ghost use Rattle.token_words.specs.Words.{name_at, name_of, word_of, words_of};
 
 use crate::word::Word;
 use verilog_lex::{Token, TokenKind, Tokens};
@@ -48,12 +48,15 @@ pub fn are_words(source: &[u8], tokens: &Tokens, words: &[Word]) -> bool
     true
 }
 
-/// The bytes of the name at a place; none where another token is there.
+/// The bytes of the name at a place; none where no name is there.
 pub fn name_at<'a>(source: &'a [u8], tokens: &Tokens, place: u32) -> &'a [u8]
-    requires { place < length tokens.now }
-    ensures { slice_get (map (λ w. w.name) (words_of source.now tokens.now)) place ≡ Some result.now }
+    ensures { result.now ≡ name_at (words_of source.now tokens.now) place }
 {
-    name_of(source, tokens.token(place))
+    if place < tokens.len() {
+        name_of(source, tokens.token(place))
+    } else {
+        &[]
+    }
 }
 
 /// Whether the token at a place is this word.
