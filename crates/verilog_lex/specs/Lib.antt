@@ -1,0 +1,6 @@
+pub mod Bytes
+pub mod Blanks
+pub mod Words
+pub mod Numbers
+pub mod Pieces
+pub mod Reads

@@ -1,0 +1,42 @@
+//! Cutting a text into its tokens.
+
+ghost use Rattle.std.specs.Prelude.{◌<◌, ◌^◌, length};
+ghost use Rattle.verilog_lex.specs.Reads.{Answers};
+
+use crate::fault::LexFault;
+use crate::piece::{Piece, first_piece};
+use crate::token::{Token, Tokens};
+use std::alloc::Global;
+
+/// The tokens of a text of at most 4,294,967,295 bytes, or its first fault.
+pub fn tokens(alloc: Global, source: &[u8]) -> Result<Tokens, LexFault>
+    requires { length source.now < 2 ^ 32 }
+    ensures { Answers source.now result }
+{
+    let mut found = Tokens::new(alloc);
+    let mut implicit = true;
+    let mut at = 0;
+    'pieces: while at < source.len() {
+        match first_piece(&source[at..]) {
+            Piece::Blank { bytes } => at += bytes,
+            Piece::Setting {
+                implicit: setting,
+                bytes,
+            } => {
+                implicit = setting;
+                at += bytes;
+            }
+            Piece::Lexeme { kind, start, bytes } => {
+                found.push(Token {
+                    kind,
+                    start: (at + start) as u32,
+                    end: (at + bytes) as u32,
+                    implicit,
+                })?;
+                at += bytes;
+            }
+            Piece::Fault { cause, offset } => return Err(cause.fault((at + offset) as u32)),
+        }
+    }
+    Ok(found)
+}
