@@ -1,6 +1,7 @@
 -- Steps over white space, comments and attributes.
-use Rattle.std.proofs.Common.{◌≡◌, ℕ, zero, suc, ◌+◌, ◌-◌, ◌<◌, ◌≤◌, Bool, true, false, ◌==◌, ◌&&◌, List, [], ◌∷◌, length, drop, Option, Some, None, option_map, if◌then◌else◌, get_or, not, ◌∙◌, refl, ap, sym, arith}
+use Rattle.std.proofs.Common.{◌≡◌, ℕ, zero, suc, ◌+◌, ◌-◌, ◌<◌, ◌≤◌, Bool, true, false, ◌==◌, ◌&&◌, List, [], ◌∷◌, length, take, drop, length-drop, Option, Some, None, option_map, if◌then◌else◌, get_or, not, ◌∙◌, refl, ap, sym, arith}
 use Rattle.std.proofs.lemmas.Bool.Decides.{nat_tests}
+use Rattle.std.proofs.lemmas.Grind.{common_steps}
 use Rattle.std.proofs.lemmas.List.{drop_more, drop-drop, get_or-drop}
 use Rattle.verilog_lex.specs.declared.bytes.Class.{Class}
 use Rattle.verilog_lex.specs.declared.bytes.Class.TheVariants.{White, Line}
@@ -116,5 +117,11 @@ module _ (text : List ℕ) (at : ℕ) (quoted : Bool) (whole : Option ℕ) (room
       let two = second_is in
       let on : (get_or text at 0 == 42 && first (drop (at + 1) text) == 41) ≡ true = rw (two, star, bracket) refl in
       sym (closed (get_or text at 0) at (drop (at + 1) text) on) ∙ now
+
+-- the text after one more blank, as a slice of the text before it
+pub after_blanks-step : (rest : List ℕ) (n size : ℕ) (whole : List ℕ) → Some n ≡ blank_len rest → n ≤ length rest → (length rest ≤ size) × (after_blanks 0 rest ≡ whole) → (length (take (length rest - n) (drop n rest)) ≤ size) × (after_blanks 0 (take (length rest - n) (drop n rest)) ≡ whole)
+after_blanks-step rest n size whole e fits so_far =
+    let same : take (length rest - n) (drop n rest) ≡ drop n rest = grind (arith, common_steps) in
+    rw same (simp length-drop (omega arith), after_blanks-some rest n (sym e) (blank_len-positive rest n (sym e)) ∙ so_far.1)
 
 pub ruleset blank_steps = (blank_len-positive, after_blanks-some, after_blanks-none)

@@ -1,3 +1,4 @@
 pub mod Values
 pub mod BlankSteps
 pub mod Cutting
+pub mod Reserved

@@ -52,6 +52,10 @@ setting_piece text bytes =
     else (if bytes_eq (take count rest) (codes "none") then Setting false end
     else Fault cause.Backquote 0)
 
+-- the directives that tell where cells begin and end
+abbrev pub is_cell_directive : List ℕ → Bool
+is_cell_directive name = bytes_eq name (codes "celldefine") || bytes_eq name (codes "endcelldefine")
+
 -- a directive is named by the longest run of letters, digits, `_` and `$` after its backquote: `timescale` goes on to the
 -- end of its line, `celldefine` and `endcelldefine` change nothing, `resetall` sets the default to `wire`
 unfoldable pub directive_piece : List ℕ → Piece
@@ -59,7 +63,7 @@ directive_piece text =
     let bytes = 1 + run class.Name (drop 1 text) in
     let name = take (bytes - 1) (drop 1 text) in
     if bytes_eq name (codes "timescale") then Blank (run class.Line text)
-    else (if bytes_eq name (codes "celldefine") || bytes_eq name (codes "endcelldefine") then Blank bytes
+    else (if is_cell_directive name then Blank bytes
     else (if bytes_eq name (codes "resetall") then Setting true bytes
     else (if bytes_eq name (codes "default_nettype") then setting_piece text bytes
     else Fault cause.Backquote 0)))

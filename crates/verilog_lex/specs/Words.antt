@@ -1,8 +1,9 @@
 -- The reserved words.
-use Rattle.std.specs.Prelude.{ℕ, List, [], ◌∷◌, codes, position, bytes_eq}
+use Rattle.std.specs.Prelude.{ℕ, ◌<◌, ◌≤◌, List, [], ◌∷◌, length, slice_index_or, codes, position, bytes_eq}
 use Rattle.std.specs.Option.{option_map_or}
 use Rattle.verilog_lex.specs.declared.token.TokenKind.{TokenKind}
 use Rattle.verilog_lex.specs.declared.token.TokenKind.TheVariants.{Name, Keyword}
+use Rattle.verilog_lex.specs.Bytes.{first}
 
 -- the reserved words in their order
 unfoldable pub reserved_words : List (List ℕ)
@@ -29,6 +30,12 @@ reserved_words =
     codes "tri1" ∷ codes "triand" ∷ codes "trior" ∷ codes "trireg" ∷ codes "unsigned" ∷ codes "use" ∷
     codes "uwire" ∷ codes "vectored" ∷ codes "wait" ∷ codes "wand" ∷ codes "weak0" ∷ codes "weak1" ∷
     codes "while" ∷ codes "wire" ∷ codes "wor" ∷ codes "xnor" ∷ codes "xor" ∷ []
+
+-- from a place on, and only there, words begin with a letter or a later one
+pub record Splits (letter place : ℕ) (words : List (List ℕ)) : Type 0 where
+  pub within : place ≤ length words
+  pub earlier : (k : ℕ) → k < place → first (slice_index_or words k []) < letter
+  pub later : (k : ℕ) → place ≤ k → k < length words → letter ≤ first (slice_index_or words k [])
 
 -- what a word is that is not escaped: the reserved word at its place, or a name
 abbrev pub word_kind : List ℕ → TokenKind

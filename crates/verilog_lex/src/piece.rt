@@ -1,7 +1,7 @@
 //! The pieces that a text is cut into, from left to right.
 
 ghost use Rattle.std.specs.Prelude.{◌≡◌, ◌<◌, ◌≤◌, length};
-ghost use Rattle.verilog_lex.specs.Pieces.{word_piece, escaped_piece, setting_piece, directive_piece, token_piece, first_piece};
+ghost use Rattle.verilog_lex.specs.Pieces.{word_piece, escaped_piece, setting_piece, is_cell_directive, directive_piece, token_piece, first_piece};
 
 use crate::blank::{after_blanks, blank_len};
 use crate::bytes::{Class, byte_at, is_white, run};
@@ -89,6 +89,13 @@ fn setting_piece(text: &[u8], bytes: usize) -> Piece
     }
 }
 
+/// Whether a directive tells where cells begin or end.
+fn is_cell_directive(name: &[u8]) -> bool
+    ensures { result ≡ is_cell_directive name.now }
+{
+    name == b"celldefine".as_slice() || name == b"endcelldefine".as_slice()
+}
+
 /// The directive that a text begins with; its first byte is a backquote.
 #[tactic(auto, unfolding(crate::specs::Pieces::directive_piece))]
 fn directive_piece(text: &[u8]) -> Piece
@@ -101,7 +108,7 @@ fn directive_piece(text: &[u8]) -> Piece
         Piece::Blank {
             bytes: run(text, Class::Line),
         }
-    } else if name == b"celldefine".as_slice() || name == b"endcelldefine".as_slice() {
+    } else if is_cell_directive(name) {
         Piece::Blank { bytes }
     } else if name == b"resetall".as_slice() {
         Piece::Setting {

@@ -1,35 +1,62 @@
 //! The reserved words.
 
-ghost use Rattle.std.specs.Prelude.{◌≡◌, position, bytes_eq};
-ghost use Rattle.verilog_lex.specs.Words.{reserved_words, word_kind};
+ghost use Rattle.std.specs.Prelude.{◌≡◌, ◌<◌, ◌≤◌, length, map, position, bytes_eq, slice_get};
+ghost use Rattle.verilog_lex.specs.Words.{Splits, reserved_words, word_kind};
 
 use crate::bytes::byte_at;
 use crate::token::TokenKind;
 
-/// The reserved words; each stands among the words with its first letter.
-static RESERVED_WORDS: [&str; 124] = [
-    "always", "and", "assign", "automatic", "begin", "buf", "bufif0", "bufif1", "case", "casex",
-    "casez", "cell", "cmos", "config", "deassign", "default", "defparam", "design", "disable",
-    "edge", "else", "end", "endcase", "endconfig", "endfunction", "endgenerate", "endmodule",
-    "endprimitive", "endspecify", "endtable", "endtask", "event", "for", "force", "forever", "fork",
-    "function", "generate", "genvar", "highz0", "highz1", "if", "ifnone", "incdir", "include",
-    "initial", "inout", "input", "instance", "integer", "join", "large", "liblist", "library",
-    "localparam", "macromodule", "medium", "module", "nand", "negedge", "nmos", "nor",
-    "noshowcancelled", "not", "notif0", "notif1", "or", "output", "parameter", "pmos", "posedge",
-    "primitive", "pull0", "pull1", "pulldown", "pullup", "pulsestyle_onevent",
-    "pulsestyle_ondetect", "rcmos", "real", "realtime", "reg", "release", "repeat", "rnmos",
-    "rpmos", "rtran", "rtranif0", "rtranif1", "scalared", "showcancelled", "signed", "small",
-    "specify", "specparam", "strong0", "strong1", "supply0", "supply1", "table", "task", "time",
-    "tran", "tranif0", "tranif1", "tri", "tri0", "tri1", "triand", "trior", "trireg", "unsigned",
-    "use", "uwire", "vectored", "wait", "wand", "weak0", "weak1", "while", "wire", "wor", "xnor",
-    "xor",
+/// The reserved words; each stands among those with its first letter.
+static RESERVED_WORDS: [&[u8]; 124] = [
+    b"always", b"and", b"assign", b"automatic", b"begin", b"buf", b"bufif0", b"bufif1", b"case",
+    b"casex", b"casez", b"cell", b"cmos", b"config", b"deassign", b"default", b"defparam",
+    b"design", b"disable", b"edge", b"else", b"end", b"endcase", b"endconfig", b"endfunction",
+    b"endgenerate", b"endmodule", b"endprimitive", b"endspecify", b"endtable", b"endtask", b"event",
+    b"for", b"force", b"forever", b"fork", b"function", b"generate", b"genvar", b"highz0",
+    b"highz1", b"if", b"ifnone", b"incdir", b"include", b"initial", b"inout", b"input", b"instance",
+    b"integer", b"join", b"large", b"liblist", b"library", b"localparam", b"macromodule", b"medium",
+    b"module", b"nand", b"negedge", b"nmos", b"nor", b"noshowcancelled", b"not", b"notif0",
+    b"notif1", b"or", b"output", b"parameter", b"pmos", b"posedge", b"primitive", b"pull0",
+    b"pull1", b"pulldown", b"pullup", b"pulsestyle_onevent", b"pulsestyle_ondetect", b"rcmos",
+    b"real", b"realtime", b"reg", b"release", b"repeat", b"rnmos", b"rpmos", b"rtran", b"rtranif0",
+    b"rtranif1", b"scalared", b"showcancelled", b"signed", b"small", b"specify", b"specparam",
+    b"strong0", b"strong1", b"supply0", b"supply1", b"table", b"task", b"time", b"tran", b"tranif0",
+    b"tranif1", b"tri", b"tri0", b"tri1", b"triand", b"trior", b"trireg", b"unsigned", b"use",
+    b"uwire", b"vectored", b"wait", b"wand", b"weak0", b"weak1", b"while", b"wire", b"wor", b"xnor",
+    b"xor",
 ];
 
 /// For each letter the place of the first reserved word that begins with it or a later one; after
 /// `z` the number of all.
-static STARTS: [u8; 27] = [
+static BUCKET_STARTS: [u8; 27] = [
     0, 4, 8, 14, 19, 32, 37, 39, 41, 50, 51, 51, 55, 58, 66, 68, 78, 78, 89, 99, 111, 114, 115, 122, 124, 124, 124,
 ];
+
+/// The word of a table at a place.
+fn entry(table: &'static [&'static [u8]], place: u8) -> &'static [u8]
+    requires { place < length table.now }
+    ensures { slice_get (map (λ word. word.now) table.now) place ≡ Some result.now }
+{
+    table[place as usize]
+}
+
+/// The reserved word at a place.
+fn reserved_word(place: u8) -> &'static [u8]
+    requires { place < 124 }
+    ensures { slice_get reserved_words place ≡ Some result.now }
+{
+    entry(&RESERVED_WORDS, place)
+}
+
+/// The place of the first reserved word that begins with a letter or a later one; the letter is
+/// from `a` to `z`, or the byte after `z`.
+fn bucket_start(letter: u8) -> u8
+    requires low { 97 ≤ letter }
+    requires high { letter ≤ 123 }
+    ensures splits { Splits letter result reserved_words }
+{
+    BUCKET_STARTS[(letter - b'a') as usize]
+}
 
 /// The place of a word among the reserved words, if it is one.
 fn reserved_place(word: &[u8]) -> Option<u32>
@@ -39,9 +66,8 @@ fn reserved_place(word: &[u8]) -> Option<u32>
     if !letter.is_ascii_lowercase() {
         return None;
     }
-    let bucket = (letter - b'a') as usize;
-    for place in STARTS[bucket]..STARTS[bucket + 1] {
-        if RESERVED_WORDS[place as usize].as_bytes() == word {
+    for place in bucket_start(letter)..bucket_start(letter + 1) {
+        if word == reserved_word(place) {
             return Some(u32::from(place));
         }
     }
