@@ -2,3 +2,4 @@ pub mod Values
 pub mod BlankSteps
 pub mod Cutting
 pub mod Reserved
+pub mod Within

@@ -1,5 +1,5 @@
 -- The pieces that a text is cut into.
-use Rattle.std.specs.Prelude.{ℕ, ◌+◌, ◌-◌, Bool, true, false, ◌==◌, ◌&&◌, ◌||◌, nat_lt, List, length, take, drop, if◌then◌else◌, Option, Some, None, codes, bytes_eq}
+use Rattle.std.specs.Prelude.{ℕ, ◌+◌, ◌-◌, ◌<◌, ◌≤◌, Bool, true, false, ◌==◌, ◌&&◌, ◌||◌, nat_lt, List, length, take, drop, if◌then◌else◌, Option, Some, None, codes, bytes_eq}
 use Rattle.std.specs.Option.{option_map_or}
 use Rattle.std.specs.Char.{is_ascii_digit, is_ascii_alphabetic}
 use Rattle.std.specs.List.{list_any}
@@ -90,3 +90,10 @@ token_piece text =
 -- what a text begins with
 unfoldable pub first_piece : List ℕ → Piece
 first_piece text = option_map_or Blank (blank_len text) (token_piece text)
+
+-- a piece has a byte and lies within so many bytes; so does a token's text, and a fault's place is one of them
+abbrev pub IsWithin : ℕ → Piece → Type 0
+IsWithin size (Blank bytes) = (0 < bytes) × (bytes ≤ size)
+IsWithin size (Setting setting bytes) = (0 < bytes) × (bytes ≤ size)
+IsWithin size (Lexeme kind start bytes) = (start < bytes) × (bytes ≤ size)
+IsWithin size (Fault cause offset) = offset < size

@@ -1,7 +1,7 @@
 //! The pieces that a text is cut into, from left to right.
 
 ghost use Rattle.std.specs.Prelude.{◌≡◌, ◌<◌, ◌≤◌, length};
-ghost use Rattle.verilog_lex.specs.Pieces.{word_piece, escaped_piece, setting_piece, is_cell_directive, directive_piece, token_piece, first_piece};
+ghost use Rattle.verilog_lex.specs.Pieces.{word_piece, escaped_piece, setting_piece, is_cell_directive, directive_piece, token_piece, first_piece, IsWithin};
 
 use crate::blank::{after_blanks, blank_len};
 use crate::bytes::{Class, byte_at, is_white, run};
@@ -158,7 +158,8 @@ fn token_piece(text: &[u8]) -> Piece
 #[tactic(auto, unfolding(crate::specs::Pieces::first_piece))]
 pub(crate) fn first_piece(text: &[u8]) -> Piece
     requires { 0 < length text.now }
-    ensures { result ≡ first_piece text.now }
+    ensures is { result ≡ first_piece text.now }
+    ensures within { IsWithin (length text.now) result }
 {
     match blank_len(text) {
         Some(bytes) => Piece::Blank { bytes },
