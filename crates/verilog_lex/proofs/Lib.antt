@@ -3,3 +3,4 @@ pub mod BlankSteps
 pub mod Cutting
 pub mod Reserved
 pub mod Within
+pub mod OneAnswer

@@ -36,3 +36,7 @@ pub data Reads (text : List ℕ) : Bool → ℕ → Result (List Token) LexFault
 abbrev pub Answers : List ℕ → Result (List Token) LexFault → Type 0
 Answers text (Err NoMemory) = Unit {0}
 Answers text answer = Reads text true 0 answer
+
+-- each text holds one thing: it has an answer, and no other
+abbrev pub EachTextHasOneAnswer : Type 0
+EachTextHasOneAnswer = (text : List ℕ) → (answer : Result (List Token) LexFault) × (Reads text true 0 answer) × ((other : Result (List Token) LexFault) → Reads text true 0 other → other ≡ answer)

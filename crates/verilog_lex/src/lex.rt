@@ -1,7 +1,7 @@
 //! Cutting a text into its tokens.
 
 ghost use Rattle.std.specs.Prelude.{◌<◌, ◌^◌, length};
-ghost use Rattle.verilog_lex.specs.Reads.{Answers};
+ghost use Rattle.verilog_lex.specs.Reads.{Answers, EachTextHasOneAnswer};
 
 use crate::fault::LexFault;
 use crate::piece::{Piece, first_piece};
@@ -39,4 +39,11 @@ pub fn tokens(alloc: Global, source: &[u8]) -> Result<Tokens, LexFault>
         }
     }
     Ok(found)
+}
+
+/// Each text has tokens or a fault, and has them as only one thing. The law is its contract; there
+/// is nothing to run.
+pub fn each_text_has_one_answer()
+    ensures { EachTextHasOneAnswer }
+{
 }

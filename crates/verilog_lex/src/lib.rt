@@ -11,5 +11,5 @@ mod token;
 mod word;
 
 pub use fault::LexFault;
-pub use lex::tokens;
+pub use lex::{each_text_has_one_answer, tokens};
 pub use token::{Token, TokenKind, Tokens};
