@@ -18,7 +18,7 @@ use Rattle.verilog_lex.specs.declared.token.TokenKind.TheVariants as kind
 use Rattle.verilog_lex.specs.Bytes.{is_in, run, first, second}
 use Rattle.verilog_lex.specs.Blanks.{comment_len, attribute_len, blank_len, after_blanks}
 use Rattle.verilog_lex.specs.Words.{word_kind}
-use Rattle.verilog_lex.specs.Numbers.{base_of, radix_of, value_of, is_constant, digits_piece, constant_piece, number_piece}
+use Rattle.verilog_lex.specs.Numbers.{base_of, value_of, is_constant, digits_piece, constant_piece, number_piece}
 use Rattle.verilog_lex.specs.Pieces.{IsWithin, is_mark, is_parted, word_piece, escaped_piece, setting_piece, is_cell_directive, directive_piece, token_piece, first_piece}
 use Rattle.verilog_lex.proofs.BlankSteps.{chosen, blank_len-positive}
 
@@ -123,7 +123,7 @@ digits_piece-within text size base start h fits =
     let le = run-drop-le (class.Digits base) start text fits in
     chosen_piece (length text) (nat_lt (run class.Known (take (run (class.Digits base) (drop start text)) (drop start text))) (run (class.Digits base) (drop start text))) _ _
     (λ e. let less : run class.Known (take (run (class.Digits base) (drop start text)) (drop start text)) < run (class.Digits base) (drop start text) = grind (arith, nat_tests) in fault _ _ _ (omega (arith, less, le)))
-    (λ _. chosen_piece (length text) (is_constant size (radix_of base) (take (run (class.Digits base) (drop start text)) (drop start text))) _ _ (λ _. lexeme _ _ 0 (start + run (class.Digits base) (drop start text)) (omega arith) le) (λ _. fault _ _ _ (omega arith)))
+    (λ _. chosen_piece (length text) (is_constant size base (take (run (class.Digits base) (drop start text)) (drop start text))) _ _ (λ _. lexeme _ _ 0 (start + run (class.Digits base) (drop start text)) (omega arith) le) (λ _. fault _ _ _ (omega arith)))
 
 base_none : base_of 0 ≡ None
 base_none = refl

@@ -3,4 +3,5 @@ pub mod Blanks
 pub mod Words
 pub mod Numbers
 pub mod Pieces
+pub mod Rows
 pub mod Reads

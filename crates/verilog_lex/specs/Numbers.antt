@@ -9,7 +9,7 @@ use Rattle.verilog_lex.specs.declared.fault.Cause.TheVariants as cause
 use Rattle.verilog_lex.specs.declared.piece.Piece.{Piece}
 use Rattle.verilog_lex.specs.declared.piece.Piece.TheVariants.{Lexeme, Fault}
 use Rattle.verilog_lex.specs.declared.token.TokenKind.TheVariants as kind
-use Rattle.verilog_lex.specs.Bytes.{run, first}
+use Rattle.verilog_lex.specs.Bytes.{is_digit_of, run, first}
 
 -- the number that a digit stands for: 0 to 9, and a to f in either case for 10 to 15
 abbrev pub digit_value : ℕ → ℕ
@@ -41,10 +41,10 @@ base_of letter =
     else (if letter == 104 || letter == 72 then Some Hexadecimal
     else None)))
 
--- the digits of a constant begin with a known digit, its size is from 1 to 128, and its value is below 2^128
-abbrev pub is_constant : ℕ → ℕ → List ℕ → Bool
-is_constant size radix digits =
-    not (first digits == 0) && not (first digits == 95) && nat_le 1 size && nat_le size 128 && nat_lt (value_of radix digits) (2 ^ 128)
+-- the digits of a constant begin with one of its base, its size is from 1 to 128, and its value is below 2^128
+abbrev pub is_constant : ℕ → Base → List ℕ → Bool
+is_constant size base digits =
+    is_digit_of base (first digits) && nat_le 1 size && nat_le size 128 && nat_lt (value_of (radix_of base) digits) (2 ^ 128)
 
 -- a constant whose digits begin after so many bytes: the digits are the longest run of digits of its base, `_` and
 -- unknown ones; the first unknown one is a fault there
@@ -55,7 +55,7 @@ digits_piece text size base start =
     let digits = take count rest in
     let known = run class.Known digits in
     if nat_lt known count then Fault cause.Digit (start + known)
-    else (if is_constant size (radix_of base) digits then Lexeme (kind.Constant size (value_of (radix_of base) digits % 2 ^ size)) 0 (start + count)
+    else (if is_constant size base digits then Lexeme (kind.Constant size (value_of (radix_of base) digits % 2 ^ size)) 0 (start + count)
     else Fault cause.Number 0)
 
 -- a constant whose base is named after so many bytes; white space may stand before its digits

@@ -46,7 +46,7 @@ fn is_unknown(byte: u8) -> bool
 }
 
 /// Whether a byte is a digit of a base.
-fn is_digit_of(base: Base, byte: u8) -> bool
+pub(crate) fn is_digit_of(base: Base, byte: u8) -> bool
     ensures { result ≡ is_digit_of base byte }
 {
     match base {

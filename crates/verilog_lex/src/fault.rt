@@ -1,6 +1,6 @@
 //! What is wrong with a text that has no tokens.
 
-use std::alloc::AllocError;
+use emu_io::NoMemory;
 
 /// Why a text has no tokens: the first place from the left where no form of the profile stands.
 #[derive(Clone, Copy, Debug, PartialEq, Eq)]
@@ -21,13 +21,13 @@ pub enum LexFault {
     NoMemory,
 }
 
-impl From<AllocError> for LexFault {
+impl From<NoMemory> for LexFault {
     ghost use Rattle.std.specs.Prelude.{◌≡◌};
-    ghost use Rattle.verilog_lex.specs.declared.fault.LexFault.TheVariants.{NoMemory};
+    ghost use Rattle.verilog_lex.specs.declared.fault.LexFault.TheVariants as lex;
 
-    ghost from_gives = { λ _ fault. fault ≡ NoMemory };
+    ghost from_gives = { λ _ fault. fault ≡ lex.NoMemory };
 
-    fn from(_: AllocError) -> LexFault {
+    fn from(_: NoMemory) -> LexFault {
         LexFault::NoMemory
     }
 }

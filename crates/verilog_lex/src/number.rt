@@ -4,7 +4,7 @@ ghost use Rattle.std.specs.Prelude.{◌≡◌, ◌≤◌, ◌<◌, ◌%◌, ◌^
 ghost use Rattle.std.specs.Option.{SomeIff};
 ghost use Rattle.verilog_lex.specs.Numbers.{digit_value, add_digit, radix_of, value_of, base_of, digits_piece, constant_piece, number_piece};
 
-use crate::bytes::{Base, Class, byte_at, run};
+use crate::bytes::{Base, Class, byte_at, is_digit_of, run};
 use crate::fault::Cause;
 use crate::piece::Piece;
 use crate::token::TokenKind;
@@ -99,7 +99,7 @@ fn digits_piece(text: &[u8], size: u32, base: Base, start: usize) -> Piece
             offset: start + known,
         };
     }
-    if count == 0 || digits[0] == b'_' || size == 0 || GREATEST_SIZE < size {
+    if !is_digit_of(base, byte_at(digits, 0)) || size == 0 || GREATEST_SIZE < size {
         return bad;
     }
     match value_of(digits, base) {
