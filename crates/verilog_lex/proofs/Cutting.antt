@@ -1,5 +1,7 @@
 -- Cutting a text into its pieces, one by one.
 use Rattle.std.proofs.Common.{◌≡◌, ℕ, ◌+◌, ◌<◌, ◌≤◌, Bool, true, List, [], ◌∷◌, ◌++◌, ◌-◌, length, take, drop, length-drop, length-append, append_assoc, Result, Ok, Err, refl, sym, ap, subst, ◌∙◌, arith}
+use Rattle.std.specs.List.{All}
+use Rattle.std.proofs.lemmas.List.Elements.{All-nil, All-push}
 use Rattle.std.proofs.lemmas.Grind.{common_steps}
 use Rattle.std.proofs.lemmas.List.{append-nil}
 use Rattle.verilog_lex.specs.declared.fault.Cause.{Cause}
@@ -9,7 +11,7 @@ use Rattle.verilog_lex.specs.declared.piece.Piece.TheVariants.{Blank, Setting, L
 use Rattle.verilog_lex.specs.declared.token.Token.{Token}
 use Rattle.verilog_lex.specs.declared.token.TokenKind.{TokenKind}
 use Rattle.verilog_lex.specs.Pieces.{first_piece, fault_at, IsWithin}
-use Rattle.verilog_lex.specs.Reads.{Stands, with_token, Reads, ends, passes, sets, takes, fails, Answers}
+use Rattle.verilog_lex.specs.Reads.{Stands, with_token, Reads, ends, passes, sets, takes, fails, Answers, IsPartOf}
 
 -- an answer with tokens before its tokens
 abbrev pub with_tokens : List Token → Result (List Token) LexFault → Result (List Token) LexFault
@@ -37,12 +39,14 @@ answers-fault text cause.Backquote at reading = reading
 pub record IsCutting (text : List ℕ) (implicit : Bool) (at : ℕ) (found : List Token) : Type 0 where
   pub within : at ≤ length text
   pub few : length found ≤ at
+  pub parts : All (IsPartOf text) found
   pub reads : (answer : Result (List Token) LexFault) → Reads text implicit at answer → Reads text true 0 (with_tokens found answer)
 
 pub cutting-begins : (text : List ℕ) → IsCutting text true 0 []
 cutting-begins text = record {
   within = omega arith;
   few = omega arith;
+  parts = All-nil (IsPartOf text);
   reads = λ answer reading. subst (λ given. Reads text true 0 given) (with_tokens-none answer) reading;
 }
 
@@ -66,6 +70,7 @@ module _ (text : List ℕ) (implicit : Bool) (at : ℕ) (found : List Token) (cu
       record {
         within = omega arith;
         few = omega arith;
+        parts = cutting.parts;
         reads = λ answer reading. cutting.reads answer (passes implicit at bytes answer (record { inside = inside; is = ap first_piece (sym rest) ∙ sym is }) reading);
       }
 
@@ -76,6 +81,7 @@ module _ (text : List ℕ) (implicit : Bool) (at : ℕ) (found : List Token) (cu
       record {
         within = omega arith;
         few = omega arith;
+        parts = cutting.parts;
         reads = λ answer reading. cutting.reads answer (sets implicit setting at bytes answer (record { inside = inside; is = ap first_piece (sym rest) ∙ sym is }) reading);
       }
 
@@ -87,6 +93,7 @@ module _ (text : List ℕ) (implicit : Bool) (at : ℕ) (found : List Token) (cu
       record {
         within = omega arith;
         few = simp length-append (omega arith);
+        parts = All-push (IsPartOf text) found token cutting.parts (omega arith, omega arith);
         reads = λ answer reading. subst (λ given. Reads text true 0 given) (with_tokens-one found token answer) (cutting.reads (with_token token answer) (takes implicit at start bytes kind answer (record { inside = inside; is = ap first_piece (sym rest) ∙ sym is }) reading));
       }
 

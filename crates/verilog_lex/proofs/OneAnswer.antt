@@ -94,8 +94,9 @@ module _ (text : List ℕ) where
   some zero at implicit fits = subst (Reads text implicit at) (sym (held-ends at implicit (omega arith))) (ends implicit at (omega arith))
   some (suc room) at implicit fits =
       elim (placed at) [
-        inr over ↦ subst (Reads text implicit at) (sym (held-ends at implicit over)) (ends implicit at over)
-      | inl inside ↦ go (first_piece (drop at text)) (record { inside = inside; is = refl }) (λ place setting further. some room place setting (omega (arith, further))) ]
+        | inr over ↦ subst (Reads text implicit at) (sym (held-ends at implicit over)) (ends implicit at over)
+        | inl inside ↦ go (first_piece (drop at text)) (record { inside = inside; is = refl }) (λ place setting further. some room place setting (omega (arith, further)))
+      ]
     where
       go : (piece : Piece) → Stands text at piece → ((place : ℕ) (setting : Bool) → at < place → Reads text setting place (held setting 0 place (drop place text))) → Reads text implicit at (held implicit 0 at (drop at text))
       go (Blank bytes) stands next =

@@ -110,9 +110,9 @@ module _ (word : List ℕ) where
       let high = starts-split 123 (omega arith) (omega arith) in
       let size = reserved_words-length in
       sym (position-none (bytes_eq word) reserved_words (λ k inside. differs word (get_or reserved_words k []) (λ e.
-          let a = low.later k (omega arith) inside in
-          let b = high.earlier k (omega arith) in
-          absurd (not_letter letter off (omega (arith, a, e, is)) (omega (arith, b, e, is))))))
+      let a = low.later k (omega arith) inside in
+      let b = high.earlier k (omega arith) in
+      absurd (not_letter letter off (omega (arith, a, e, is)) (omega (arith, b, e, is))))))
 
   pub no_bucket : (letter high : ℕ) → letter ≡ first word → Splits (letter + 1) high reserved_words → ((k : ℕ) → k < high → bytes_eq word (get_or reserved_words k []) ≡ false) → None ≡ position (bytes_eq word) reserved_words
   no_bucket letter high is to h =

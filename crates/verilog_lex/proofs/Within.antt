@@ -90,9 +90,9 @@ unfolding escaped_piece
 escaped_piece-within text h =
     chosen_piece (length text) _ _ _
     (λ e.
-      let some = (both (nat_lt 0 (run class.Escaped (drop 1 text))) (is_parted (drop (1 + run class.Escaped (drop 1 text)) text)) e).0 in
-      let le = run-drop-le class.Escaped 1 text (omega arith) in
-      lexeme _ _ _ _ (grind (arith, nat_tests)) le)
+    let some = (both (nat_lt 0 (run class.Escaped (drop 1 text))) (is_parted (drop (1 + run class.Escaped (drop 1 text)) text)) e).0 in
+    let le = run-drop-le class.Escaped 1 text (omega arith) in
+    lexeme _ _ _ _ (grind (arith, nat_tests)) le)
     (λ _. fault _ _ _ h)
 
 setting_piece-within : (text : List ℕ) (bytes : ℕ) → 0 < bytes → bytes ≤ length text → Lies (length text) (setting_piece text bytes)

@@ -37,6 +37,10 @@ abbrev pub Answers : List ℕ → Result (List Token) LexFault → Type 0
 Answers text (Err NoMemory) = Unit {0}
 Answers text answer = Reads text true 0 answer
 
+-- the text of a token is a part of the source, of one byte at least
+abbrev pub IsPartOf : List ℕ → Token → Type 0
+IsPartOf source token = (token.start < token.end) × (token.end ≤ length source)
+
 -- each text holds one thing: it has an answer, and no other
 abbrev pub EachTextHasOneAnswer : Type 0
 EachTextHasOneAnswer = (text : List ℕ) → (answer : Result (List Token) LexFault) × (Reads text true 0 answer) × ((other : Result (List Token) LexFault) → Reads text true 0 other → other ≡ answer)

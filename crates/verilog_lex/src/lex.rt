@@ -1,17 +1,23 @@
 //! Cutting a text into its tokens.
 
-ghost use Rattle.std.specs.Prelude.{◌<◌, ◌^◌, length};
-ghost use Rattle.verilog_lex.specs.Reads.{Answers, EachTextHasOneAnswer};
+ghost use Rattle.std.specs.Prelude.{◌<◌, ◌^◌, All, IfOk, length};
+ghost use Rattle.verilog_lex.specs.Reads.{Answers, EachTextHasOneAnswer, IsPartOf};
 
 use crate::fault::LexFault;
 use crate::piece::{Piece, first_piece};
 use crate::token::{Token, Tokens};
 use std::alloc::Global;
 
-/// The tokens of a text of at most 4,294,967,295 bytes, or its first fault.
+/// The tokens of a text of at most 4,294,967,295 bytes, or its first fault from the left.
+///
+/// White space, comments, attributes and directives are passed over. Undeclared names become wires
+/// until `default_nettype none`, and again after `default_nettype wire` or `resetall`. The text of
+/// each token is the part of the source from its start up to its end. Takes one pass, and 32 bytes
+/// for each token.
 pub fn tokens(alloc: Global, source: &[u8]) -> Result<Tokens, LexFault>
     requires { length source.now < 2 ^ 32 }
-    ensures { Answers source.now result }
+    ensures reads { Answers source.now result }
+    ensures parts { IfOk result (All (IsPartOf source.now)) }
 {
     let mut found = Tokens::new(alloc);
     let mut implicit = true;
@@ -45,5 +51,4 @@ pub fn tokens(alloc: Global, source: &[u8]) -> Result<Tokens, LexFault>
 /// is nothing to run.
 pub fn each_text_has_one_answer()
     ensures { EachTextHasOneAnswer }
-{
-}
+{}

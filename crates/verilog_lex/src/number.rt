@@ -120,7 +120,11 @@ fn cut(value: u128, size: u32) -> u128
     requires { size ≤ 128 }
     ensures { result ≡ value % 2 ^ size }
 {
-    if size < GREATEST_SIZE { value % (1u128 << size) } else { value }
+    if size < GREATEST_SIZE {
+        value % (1u128 << size)
+    } else {
+        value
+    }
 }
 
 /// The sized constant whose base is named after so many bytes of a text.
@@ -148,7 +152,8 @@ pub(crate) fn number_piece(text: &[u8]) -> Piece
 {
     let count = run(text, Class::Number);
     let quote = count + run(&text[count..], Class::White);
-    let number = value_of(&text[..count], Base::Decimal).and_then(|value| u32::try_from(value).ok());
+    let value = value_of(&text[..count], Base::Decimal);
+    let number = value.and_then(|value| u32::try_from(value).ok());
     match number {
         None => Piece::Fault {
             cause: Cause::Number,

@@ -14,9 +14,14 @@ use crate::word::word_kind;
 #[derive(Clone, Copy, Debug, PartialEq, Eq)]
 pub(crate) enum Piece {
     /// So many bytes that are passed over.
-    Blank { bytes: usize },
+    Blank {
+        bytes: usize,
+    },
     /// A directive of so many bytes that says whether undeclared names become wires after it.
-    Setting { implicit: bool, bytes: usize },
+    Setting {
+        implicit: bool,
+        bytes: usize,
+    },
     /// So many bytes whose last, from the place `start` on, are a token's text.
     Lexeme {
         kind: TokenKind,
@@ -24,7 +29,10 @@ pub(crate) enum Piece {
         bytes: usize,
     },
     /// A fault, so many bytes from here.
-    Fault { cause: Cause, offset: usize },
+    Fault {
+        cause: Cause,
+        offset: usize,
+    },
 }
 
 /// The simple name or reserved word that a text begins with.

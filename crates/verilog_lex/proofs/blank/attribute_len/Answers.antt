@@ -14,6 +14,10 @@ pub returns-then-byte_at-eq41-clause-is : goal.returns-then-byte_at-eq41-clause-
 returns-then-byte_at-eq41-clause-is c = attribute-closed c.args.text.now c.loop-at.at c.loop-at.quoted _ (omega arith) c.loop-at.invariant.1 c.if-quoted.false c.if-byte-eq42.true (cc)
 
 pub loop-at-preserved : goal.loop-at-preserved
-loop-at-preserved c = (omega arith, attribute-outside c.args.text.now c.loop-at.at c.loop-at.quoted _ (omega arith) c.loop-at.invariant.1 c.if-quoted.false (elim c.else-byte-eq42.branch [
-      else-byte-eq42-via-then-byte-eq42+else-byte_at-eq41 w ↦ λ _ e. w.if-byte_at-eq41.false (w.byte_at.ensures ∙ e)
-    | else-byte-eq42-via-else-byte-eq42 w ↦ λ e _. w.if-byte-eq42.false e ]))
+loop-at-preserved c = (
+  omega arith,
+  attribute-outside c.args.text.now c.loop-at.at c.loop-at.quoted _ (omega arith) c.loop-at.invariant.1 c.if-quoted.false (elim c.else-byte-eq42.branch [
+    | else-byte-eq42-via-then-byte-eq42+else-byte_at-eq41 w ↦ λ _ e. w.if-byte_at-eq41.false (w.byte_at.ensures ∙ e)
+    | else-byte-eq42-via-else-byte-eq42 w ↦ λ e _. w.if-byte-eq42.false e
+  ]),
+)

@@ -13,10 +13,10 @@ pieces-preserved-in-Setting c = cutting-setting c.args.source.now c.pieces.impli
 pub pieces-preserved : goal.pieces-preserved
 pieces-preserved c = rw c.in_ok-push-in-Lexeme.ensures.ok (cutting-token c.args.source.now c.pieces.implicit c.pieces.at c.pieces.found c.pieces.invariant c.pieces-test.true c.in-Lexeme.kind c.in-Lexeme.start c.in-Lexeme.bytes c.in-Lexeme.ensures.is c.in-Lexeme.ensures.within)
 
-pub returns-in-Fault : goal.returns-in-Fault
-returns-in-Fault c =
+pub returns-in-Fault-clause-reads : goal.returns-in-Fault-clause-reads
+returns-in-Fault-clause-reads c =
     let text = c.args.source.now in
     subst (λ fault. Answers text (Err fault)) (sym c.fault.ensures) (cutting-fault c.args.source.now c.pieces.implicit c.pieces.at c.pieces.found c.pieces.invariant c.pieces-test.true c.in-Fault.cause c.in-Fault.offset c.in-Fault.ensures.is)
 
-pub returns : goal.returns
-returns c = cutting-ends c.args.source.now c.pieces.implicit c.pieces.at c.pieces.found c.pieces.invariant c.pieces-test.false
+pub returns-clause-reads : goal.returns-clause-reads
+returns-clause-reads c = cutting-ends c.args.source.now c.pieces.implicit c.pieces.at c.pieces.found c.pieces.invariant c.pieces-test.false
