@@ -6,3 +6,4 @@ pub mod Told
 pub mod Fronts
 pub mod Cuts
 pub mod Grown
+pub mod Held
