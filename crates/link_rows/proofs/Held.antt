@@ -1,13 +1,13 @@
 -- The arrays and the value that contracts see of them.
-use Rattle.std.proofs.Common.{◌≡◌, ℕ, ◌+◌, ◌-◌, ◌<◌, ◌≤◌, ◌^◌, max, true, List, [], ◌∷◌, ◌++◌, Option, Some, None, IsSome, is_some, map, length, get_or, set, replicate, refl, sym, ap, ◌∙◌, subst, arith}
+use Rattle.std.proofs.Common.{◌≡◌, ℕ, ◌-◌, ◌<◌, ◌^◌, max, true, List, ◌∷◌, ◌++◌, Option, Some, None, IsSome, is_some, map, length, get_or, set, replicate, refl, sym, ap, ◌∙◌, subst, arith}
 use Rattle.std.specs.Option.{option_and_then}
 use Rattle.std.proofs.lemmas.List.{get_or_default}
 use Rattle.link_rows.specs.declared.arrays.Link.{Link}
-use Rattle.link_rows.specs.Rows.{Linked, row, has, home, after, next_in, without, with_more, AreApart}
+use Rattle.link_rows.specs.Rows.{Linked, row, has, home, first_of, after, next_in, before, prev_in, without, with_more, AreApart}
 use Rattle.link_rows.specs.Links.{loose, link_of, first_at, lists_of, front_links, cut_firsts, cut_links, IsWithin, IsLinked}
 use Rattle.link_rows.proofs.Homes.{has-home, map-without_absent}
-use Rattle.link_rows.proofs.Chains.{chain_first, chain_next}
-use Rattle.link_rows.proofs.Told.{has-head, owner-within, apart_told, kept, seen}
+use Rattle.link_rows.proofs.Chains.{chain_first, chain_next, chain_prev}
+use Rattle.link_rows.proofs.Told.{has-head, has-owner, owner-within, apart_told, kept, seen}
 use Rattle.link_rows.proofs.Fronts.{first-within, length-front_links, front_linked}
 use Rattle.link_rows.proofs.Cuts.{head-within, next_in_items, prev_in_items, length-cut_links, cut_linked}
 use Rattle.link_rows.proofs.Grown.{length-more, grown_linked}
@@ -25,7 +25,7 @@ module _ (firsts : List (Option ℕ)) (links : List Link) (v : Linked) where
   pub holds : view_of firsts links ≡ v → IsLinked firsts links (lists_of firsts links) → Holds firsts links v
   holds view_is linked = record {
     linked = subst (λ r. IsLinked firsts links r.lists) view_is linked;
-    count = ap (λ r. r.items) view_is
+    count = ap (λ r. r.items) view_is;
   }
 
   pub holds-invariant : Holds firsts links v → IsLinked firsts links (lists_of firsts links)
@@ -59,7 +59,7 @@ module _ (firsts : List (Option ℕ)) (links : List Link) (v : Linked) where
         let same = length-front_links firsts links v.lists head item h.linked (head-in head in_heads) (item-in item in_items) new in
         record {
           linked = subst (λ fs. IsLinked fs links' lists') (sym e1) (subst (λ ls. IsLinked (set firsts head (Some item)) ls lists') (sym e2) after);
-          count = ap length e2 ∙ same ∙ h.count
+          count = ap length e2 ∙ same ∙ h.count;
         }
 
     -- an item of a head is taken out
@@ -81,7 +81,7 @@ module _ (firsts : List (Option ℕ)) (links : List Link) (v : Linked) where
           let same = length-cut_links firsts links v.lists head item h.linked owned in
           record {
             linked = subst (λ fs. IsLinked fs links' lists') (sym e1) (subst (λ ls. IsLinked (cut_firsts firsts (link_of links item).prev (link_of links item).next head) ls lists') (sym e2) after);
-            count = ap length e2 ∙ same ∙ h.count
+            count = ap length e2 ∙ same ∙ h.count;
           }
 
     -- an item that is in no list leaves the lists
@@ -90,7 +90,7 @@ module _ (firsts : List (Option ℕ)) (links : List Link) (v : Linked) where
         let none : home item v.lists ≡ None = sym (h.linked.homes item) ∙ owned in
         record {
           linked = subst (IsLinked firsts links) (sym (map-without_absent item v.lists none)) h.linked;
-          count = h.count
+          count = h.count;
         }
 
     -- more heads and items
@@ -105,7 +105,7 @@ module _ (firsts : List (Option ℕ)) (links : List Link) (v : Linked) where
         let held = subst (λ fs. IsLinked fs links' lists') (sym e1) (subst (λ ls. IsLinked (firsts ++ replicate more None) ls lists') (sym e2) after) in
         record {
           linked = subst (λ n. IsLinked firsts' links' (with_more v.lists (heads - n))) (sym h.linked.heads) held;
-          count = ap length e2 ∙ length-more links extra loose ∙ omega (arith, h.count)
+          count = ap length e2 ∙ length-more links extra loose ∙ omega (arith, h.count);
         }
 
     -- the item after an item of a list
@@ -132,6 +132,39 @@ module _ (firsts : List (Option ℕ)) (links : List Link) (v : Linked) where
     holds-read item place link linked_item same read =
         let within : place < length links = subst (λ n. n < length links) (sym same) (holds-within item linked_item) in
         ap (λ l. l.next) (read ∙ get_or_default links place link loose within ∙ ap (link_of links) same) ∙ holds-next item linked_item
+
+    -- what is read of an item of a head's list
+    pub holds-item : (head item : ℕ) → has item (row v.lists head) ≡ true → item < length links
+    holds-item head item here = owner-within links item head (has-owner firsts links v.lists h.linked head item here)
+
+    pub holds-after : (head item : ℕ) (link : Link) → has item (row v.lists head) ≡ true → link ≡ get_or links item link → link.next ≡ after item (row v.lists head)
+    holds-after head item link here read =
+        let within = has-head firsts links v.lists h.linked head item here in
+        ap (λ l. l.next) (read ∙ get_or_default links item link loose (holds-item head item here))
+        ∙ chain_next (link_of links) head item None (first_at firsts head) (row v.lists head) (h.linked.chains head within) here
+
+    pub holds-first_of : (head place : ℕ) (first : Option ℕ) → head < length v.lists → place ≡ head → first ≡ get_or firsts place first → first ≡ first_of (row v.lists head)
+    holds-first_of head place first within same read =
+        let in_firsts = head-in head within in
+        let in_place : place < length firsts = subst (λ n. n < length firsts) (sym same) in_firsts in
+        read ∙ get_or_default firsts place first None in_place ∙ ap (first_at firsts) same
+        ∙ chain_first (link_of links) head None (first_at firsts head) (row v.lists head) (h.linked.chains head in_firsts)
+
+    -- the item before an item of a list
+    holds-prev : (item : ℕ) → IsSome (home item v.lists) → (link_of links item).prev ≡ prev_in v.lists item
+    holds-prev item linked_item = go (home item v.lists) refl linked_item
+      where
+        go : (o : Option ℕ) → home item v.lists ≡ o → IsSome o → (link_of links item).prev ≡ option_and_then (λ head. before None item (row v.lists head)) o
+        go None e s = absurd (let no : is_some {T = ℕ} None ≡ true = s in cc)
+        go (Some head) e s =
+            let here = has-home item v.lists head e in
+            let within = has-head firsts links v.lists h.linked head item here in
+            chain_prev (link_of links) head item None (first_at firsts head) (row v.lists head) (h.linked.chains head within) here
+
+    pub holds-read_prev : (item place : ℕ) (link : Link) → IsSome (home item v.lists) → place ≡ item → link ≡ get_or links place link → link.prev ≡ prev_in v.lists item
+    holds-read_prev item place link linked_item same read =
+        let within : place < length links = subst (λ n. n < length links) (sym same) (holds-within item linked_item) in
+        ap (λ l. l.prev) (read ∙ get_or_default links place link loose within ∙ ap (link_of links) same) ∙ holds-prev item linked_item
 
     -- the head that is read of an item
     pub holds-owner : (item place : ℕ) (link : Link) (owner : Option ℕ) → item < v.items → place ≡ item → link ≡ get_or links place link → link.owner ≡ owner → (link_of links place).owner ≡ owner

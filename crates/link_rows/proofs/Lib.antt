@@ -7,3 +7,5 @@ pub mod Fronts
 pub mod Cuts
 pub mod Grown
 pub mod Held
+pub mod Lasts
+pub mod Moves

@@ -1,7 +1,7 @@
 //! Lists of items under heads.
 ghost use Rattle.std.specs.Prelude.{◌≡◌, ◌-◌, ◌<◌, ◌≢◌, ◌∷◌, [], None, IsSome, max, map, length, slice_set, OnOk, OnErr};
 ghost use Rattle.std.specs.Option.{option_map};
-ghost use Rattle.link_rows.specs.Rows.{row, home, first_of, next_in, without, with_more, moved_all, AreApart};
+ghost use Rattle.link_rows.specs.Rows.{row, home, first_of, next_in, prev_in, last_or, without, with_more, moved_all, AreApart};
 
 use crate::arrays::Arrays;
 use emu_io::NoMemory;
@@ -64,8 +64,9 @@ impl<H: Key, I: Key> Rows<H, I> {
     /// no list.
     pub fn reserve(&mut self, heads: u32, items: u32) -> Result<(), NoMemory>
         ensures ok { OnOk result (self.new ≡ record {
-            lists = with_more self.old.lists (heads - length self.old.lists);
-            items = max items self.old.items }) }
+          lists = with_more self.old.lists (heads - length self.old.lists);
+          items = max items self.old.items;
+        }) }
         ensures err { OnErr result (self.new ≡ self.old) }
         ensures apart { AreApart self.new }
     {
@@ -106,8 +107,9 @@ impl<H: Key, I: Key> Rows<H, I> {
         requires item { I.place_of i < self.old.items }
         requires unlinked { home (I.place_of i) self.old.lists ≡ None }
         ensures front { let head = H.place_of h in self.new ≡ record {
-            lists = slice_set self.old.lists head (I.place_of i ∷ row self.old.lists head);
-            items = self.old.items } }
+          lists = slice_set self.old.lists head (I.place_of i ∷ row self.old.lists head);
+          items = self.old.items;
+        } }
         ensures apart { AreApart self.new }
     {
         self.arrays.put_front(h.place(), i.place());
@@ -117,13 +119,55 @@ impl<H: Key, I: Key> Rows<H, I> {
     pub fn unlink(&mut self, i: I)
         requires { I.place_of i < self.old.items }
         ensures out { self.new ≡ record {
-            lists = map (without (I.place_of i)) self.old.lists;
-            items = self.old.items } }
+          lists = map (without (I.place_of i)) self.old.lists;
+          items = self.old.items;
+        } }
         ensures apart { AreApart self.new }
     {
         let item = i.place();
         if let Some(head) = self.arrays.links[item as usize].owner {
             self.arrays.cut(head, item);
         }
+    }
+
+    /// Puts the list of `from`, in its order, before the list of `to`, and leaves `from` empty.
+    pub fn move_all(&mut self, from: H, to: H)
+        requires from { H.place_of from < length self.old.lists }
+        requires to { H.place_of to < length self.old.lists }
+        requires differ { H.place_of from ≢ H.place_of to }
+        ensures moved { self.new ≡ record {
+          lists = moved_all self.old.lists (H.place_of from) (H.place_of to);
+          items = self.old.items;
+        } }
+        ensures apart { AreApart self.new }
+    {
+        let mut at = self.last(from);
+        'back: while let Some(item) = at {
+            at = self.before(item);
+            self.unlink(item);
+            self.push_front(to, item);
+        }
+    }
+
+    // The last item of a head's list.
+    fn last(&self, h: H) -> Option<I>
+        requires { H.place_of h < length self.now.lists }
+        ensures last { result ≡ option_map I.key_of (last_or None (row self.now.lists (H.place_of h))) }
+        ensures apart { AreApart self.now }
+    {
+        let mut at = self.arrays.firsts[h.place() as usize]?;
+        'forth: while let Some(next) = self.arrays.links[at as usize].next {
+            at = next;
+        }
+        Some(I::of(at))
+    }
+
+    // The item before an item that is in a list.
+    fn before(&self, i: I) -> Option<I>
+        requires { IsSome (home (I.place_of i) self.now.lists) }
+        ensures { result ≡ option_map I.key_of (prev_in self.now.lists (I.place_of i)) }
+    {
+        let prev = self.arrays.links[i.place() as usize].prev?;
+        Some(I::of(prev))
     }
 }

@@ -1,7 +1,6 @@
-use Rattle.std.proofs.Common.{◌≡◌, ◌∙◌, Some, ap, sym}
+use Rattle.std.proofs.Common.{◌∙◌, Some, ap, sym}
 use Rattle.std.specs.Option.{option_map}
-use Rattle.link_rows.specs.Rows.{next_in}
-use Rattle.link_rows.proofs.Held.{Holds, holds, holds-read}
+use Rattle.link_rows.proofs.Held.{holds, holds-read}
 use Rattle.link_rows.proofs.rows.Rows.next.Goals as goal
 
 pub returns-in_err-next : goal.returns-in_err-next

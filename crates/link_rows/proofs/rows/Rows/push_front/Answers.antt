@@ -1,6 +1,5 @@
-use Rattle.std.proofs.Common.{◌<◌, ◌∷◌, Some, length, set, subst, sym, ◌∙◌}
+use Rattle.std.proofs.Common.{◌<◌, ◌∷◌, length, set, subst, sym}
 use Rattle.link_rows.specs.Rows.{row}
-use Rattle.link_rows.specs.Links.{front_links}
 use Rattle.link_rows.proofs.Held.{Holds, holds, holds-first, holds-front, holds-invariant, holds-view, holds-seen_apart}
 use Rattle.link_rows.proofs.rows.Rows.push_front.Given.{Over}
 use Rattle.link_rows.proofs.rows.Rows.push_front.Goals as goal
@@ -13,14 +12,14 @@ put_front-requires-clause-first g c =
 
 -- the arrays hold the lists with the item at the front
 after : (g : Over) (c : goal.After-put_front g) → Holds c.put_front.new.self.firsts.items c.put_front.new.self.links.items (record {
-    lists = set c.args.self.now.lists (g.H.Key.place_of c.args.h) (g.I.Key.place_of c.args.i ∷ row c.args.self.now.lists (g.H.Key.place_of c.args.h));
-    items = c.args.self.now.items
-  })
+  lists = set c.args.self.now.lists (g.H.Key.place_of c.args.h) (g.I.Key.place_of c.args.i ∷ row c.args.self.now.lists (g.H.Key.place_of c.args.h));
+  items = c.args.self.now.items;
+})
 after g c =
     let v = c.args.self.now in
     let new = c.put_front.new.self in
     holds-front _ _ v (holds _ _ v c.self.view_is c.self.invariant) (g.H.Key.place_of c.args.h) (g.I.Key.place_of c.args.i) c.place.result c.place-2.result new.firsts.items new.links.items
-      c.requires.head c.requires.item c.requires.unlinked c.place.ensures c.place-2.ensures c.put_front.ensures.firsts c.put_front.ensures.links
+    c.requires.head c.requires.item c.requires.unlinked c.place.ensures c.place-2.ensures c.put_front.ensures.firsts c.put_front.ensures.links
 
 pub invariant_of-self : goal.invariant_of-self
 invariant_of-self g c = holds-invariant _ _ _ (after g c)

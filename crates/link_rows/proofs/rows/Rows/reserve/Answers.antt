@@ -1,4 +1,4 @@
-use Rattle.std.proofs.Common.{ℕ, ◌-◌, ◌<◌, ◌^◌, max, length}
+use Rattle.std.proofs.Common.{◌-◌, max, length}
 use Rattle.link_rows.specs.Rows.{with_more}
 use Rattle.link_rows.proofs.Held.{Holds, holds, holds-same, holds-grown, holds-invariant, holds-view, holds-seen_apart}
 use Rattle.link_rows.proofs.rows.Rows.reserve.Given.{Over}
@@ -12,9 +12,9 @@ returns-in_err-grow-clause-apart g c =
 
 -- the arrays hold the lists with more empty ones
 after : (g : Over) (c : goal.In_ok-grow g) → Holds c.grow.new.self.firsts.items c.grow.new.self.links.items (record {
-    lists = with_more c.args.self.now.lists (c.args.heads - length c.args.self.now.lists);
-    items = max c.args.items c.args.self.now.items
-  })
+  lists = with_more c.args.self.now.lists (c.args.heads - length c.args.self.now.lists);
+  items = max c.args.items c.args.self.now.items;
+})
 after g c =
     let v = c.args.self.now in
     let new = c.grow.new.self in

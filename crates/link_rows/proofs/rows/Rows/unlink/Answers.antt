@@ -1,5 +1,5 @@
-use Rattle.std.proofs.Common.{◌≡◌, ℕ, Some, None, map, sym, subst, ap, ◌∙◌, rules}
-use Rattle.link_rows.specs.Rows.{Linked, without}
+use Rattle.std.proofs.Common.{◌≡◌, Some, None, map, sym, subst, ap, ◌∙◌, rules}
+use Rattle.link_rows.specs.Rows.{without}
 use Rattle.link_rows.specs.Links.{link_of}
 use Rattle.link_rows.proofs.Held.{Holds, holds, holds-owner, holds-loose, holds-cut, holds-cut_head, holds-cut_next, holds-cut_prev, holds-invariant, holds-view, holds-apart, holds-seen_apart}
 use Rattle.link_rows.proofs.rows.Rows.unlink.Given.{Over}
@@ -22,9 +22,9 @@ cut-requires-clause-prev g c = holds-cut_prev _ _ _ (before g c) c.in-Some.head 
 
 -- the arrays hold the lists without the item
 after : (g : Over) (c : goal.After-cut g) → Holds c.cut.new.self.firsts.items c.cut.new.self.links.items (record {
-    lists = map (without (g.I.Key.place_of c.args.i)) c.args.self.now.lists;
-    items = c.args.self.now.items
-  })
+  lists = map (without (g.I.Key.place_of c.args.i)) c.args.self.now.lists;
+  items = c.args.self.now.items;
+})
 after g c =
     let v = c.args.self.now in
     let new = c.cut.new.self in
