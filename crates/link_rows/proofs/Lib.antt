@@ -6,3 +6,6 @@ pub mod Told
 pub mod Fronts
 pub mod Cuts
 pub mod Grown
+pub mod Held
+pub mod Lasts
+pub mod Moves

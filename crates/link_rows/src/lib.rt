@@ -3,6 +3,6 @@
 #![tactic(auto)]
 
 mod arrays;
+mod rows;
 
-
-
+pub use rows::Rows;
