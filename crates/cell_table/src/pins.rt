@@ -16,7 +16,7 @@ pub(crate) struct Pins<'c> {
     names: Vec<&'c [u8]>,
 }
 
-impl Model for Pins<'_> {
+impl<'c> Model for Pins<'c> {
     ghost use Rattle.std.specs.Prelude.{List, ℕ, map};
 
     ghost Value = { List (List ℕ) };
