@@ -1,3 +1,5 @@
 pub mod Members
 pub mod Kinds
 pub mod Pins
+pub mod Judge
+pub mod Build
