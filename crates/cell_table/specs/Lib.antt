@@ -3,3 +3,5 @@ pub mod Kinds
 pub mod Pins
 pub mod Judge
 pub mod Build
+pub mod Faults
+pub mod Table

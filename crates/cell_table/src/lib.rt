@@ -8,7 +8,11 @@ mod judge;
 mod kinds;
 mod members;
 mod pins;
+mod read;
+mod table;
 mod written;
 
+pub use read::read_cells;
+pub use table::CellTable;
 pub use fault::CellFault;
 pub use cell::{Cell, CellKind, CellRead, CellWrite, CombOut, EdgePin, FeedPin, LevelPin};
