@@ -34,7 +34,7 @@ ListStands ds (Err NoMemory) = Unit {0}
 ListStands ds (Err fault) = IsFirstFault ds fault
 
 -- the number that is the member `version`
-abbrev pub version_of : Data → Option ℕ
+unfoldable pub version_of : Data → Option ℕ
 version_of d = do
   member ← get (codes "version") d
   number ← as_number member

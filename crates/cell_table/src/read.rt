@@ -1,11 +1,11 @@
 //! A cell table read from its text.
 
-ghost use Rattle.std.specs.Prelude.{◌++◌, ◌<◌, ◌≡◌, ◌≤◌, ◌∷◌, [], IfOk, OnOk, Some, length, map};
+ghost use Rattle.std.specs.Prelude.{◌++◌, ◌<◌, ◌≡◌, ◌≤◌, ◌↔◌, ◌∷◌, [], IfOk, IsTrue, OnOk, Some, length, map};
 ghost use Rattle.id_arena.specs.Arena.{item_limit};
 ghost use Rattle.id_arena.specs.Names.{place_among};
 ghost use Rattle.serde_json.specs.View.{view};
 ghost use Rattle.cell_table.specs.Faults.{Judges, cell_fault, cell_of, written_fault};
-ghost use Rattle.cell_table.specs.Table.{ListStands, Stands, ValueStands, names_of};
+ghost use Rattle.cell_table.specs.Table.{ListStands, Stands, ValueStands, names_of, version_of};
 
 use crate::build::cell_from;
 use crate::cell::Cell;
@@ -43,7 +43,7 @@ pub fn read_cells(alloc: Global, bytes: &[u8]) -> Result<CellTable, CellFault>
 fn table_from(alloc: Global, value: &Value) -> Result<CellTable, CellFault>
     ensures { ValueStands (view value.now) result }
 {
-    if value.get("version").and_then(Value::as_u64) != Some(1) {
+    if !is_version_one(value) {
         return Err(CellFault::Version);
     }
     match items_member(value, "cells") {
@@ -51,6 +51,14 @@ fn table_from(alloc: Global, value: &Value) -> Result<CellTable, CellFault>
         Err(ShapeFault::BadShape) => Err(CellFault::BadShape { cell: None }),
         Err(ShapeFault::NoMemory) => Err(CellFault::NoMemory),
     }
+}
+
+/// Whether the member `version` is the number 1.
+#[tactic(auto, unfolding(crate::specs::Table::version_of))]
+fn is_version_one(value: &Value) -> bool
+    ensures { IsTrue result ↔ (version_of (view value.now) ≡ Some 1) }
+{
+    value.get("version").and_then(Value::as_u64) == Some(1)
 }
 
 /// The table of the cells that the values of a list are.

@@ -1,7 +1,6 @@
 //! The table of cells.
 
-ghost use Rattle.std.specs.Prelude.{◌<◌, ◌≡◌, ◌↔◌, IfSome, IsNone, Some, false, length, option_map, slice_get, bytes_eq};
-ghost use Rattle.std.specs.List.{list_any};
+ghost use Rattle.std.specs.Prelude.{◌<◌, ◌≡◌, ◌≢◌, ◌↔◌, ℕ, IfSome, IsNone, Some, length, option_map, slice_get};
 
 use crate::cell::Cell;
 use id_arena::{Arena, CellId, Key, Names};
@@ -48,7 +47,7 @@ impl CellTable {
     /// The cell of this name; None exactly where no cell has it.
     pub fn find(&self, name: &[u8]) -> Option<CellId>
         ensures place { option_map (λ id. id.place) result ≡ place_among (names_of self.now) name.now }
-        ensures none { IsNone result ↔ (list_any (bytes_eq name.now) (names_of self.now) ≡ false) }
+        ensures none { IsNone result ↔ ((k : ℕ) → slice_get (names_of self.now) k ≢ Some name.now) }
         ensures found { IfSome result (λ id. slice_get (names_of self.now) id.place ≡ Some name.now) }
     {
         let place = self.names.find(name)?;
