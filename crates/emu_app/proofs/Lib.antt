@@ -1,2 +1,3 @@
 pub mod NineWords
 pub mod Fetches
+pub mod Readings

@@ -3,6 +3,7 @@
 
 mod command;
 mod fetch;
+mod read;
 mod status;
 mod what;
 
