@@ -1,0 +1,3 @@
+pub mod Plain
+pub mod Reach
+pub mod Rules
