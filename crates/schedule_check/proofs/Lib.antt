@@ -1,3 +1,7 @@
 pub mod Plain
 pub mod Reach
 pub mod Rules
+pub mod Sound
+pub mod Tests
+pub mod Histories
+pub mod Together

@@ -43,12 +43,16 @@ driver_far g first inverts k = go first
   where
     e0 : (suc (suc (suc (suc k))) == 0) ≡ false
     e0 = far_left 0 k (omega arith)
+
     e1 : (suc (suc (suc (suc k))) == 1) ≡ false
     e1 = far_left 1 k (omega arith)
+
     e2 : (2 == suc (suc (suc (suc k)))) ≡ false
     e2 = far_right 2 k (omega arith)
+
     e3 : (3 == suc (suc (suc (suc k)))) ≡ false
     e3 = far_right 3 k (omega arith)
+
     go : (first : Bool) → driver (parts g first inverts) (suc (suc (suc (suc k)))) ≡ Constant false
     go true = rw (e0, e1, e2, e3) refl
     go false = rw (e0, e1, e2, e3) refl

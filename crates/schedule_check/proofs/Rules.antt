@@ -23,13 +23,12 @@ passing : {X : Type 0} (test : X → Bool) (x : X) (k : ℕ) → test x ≡ true
 passing test x zero yes_is no_is = not_both (test x) yes_is no_is
 passing test x (suc k) yes_is no_is = no_is
 
-
 -- no gate leads to a gate
 distinct : (second : Bool) → chip_net (not second) ≡ chip_net second → ⊥
 distinct true e = no (ap (λ (m : ChipNetId). m.place == 1) e)
 distinct false e = no (ap (λ (m : ChipNetId). m.place == 0) e)
 
-gate : Bool → Bool → EmuGate
+abbrev gate : Bool → Bool → EmuGate
 gate inverts second = record { op = if inverts then Not else Buf; output = chip_net second; inputs = chip_net (not second) ∷ [] }
 
 module _ (g : OneGate) (room slots : ℕ) where
