@@ -5,3 +5,4 @@ pub mod Sound
 pub mod Tests
 pub mod Histories
 pub mod Together
+pub mod Examples

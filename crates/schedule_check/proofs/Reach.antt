@@ -57,7 +57,7 @@ driver_far g first inverts k = go first
     go true = rw (e0, e1, e2, e3) refl
     go false = rw (e0, e1, e2, e3) refl
 
-far_needs : (p : Parts) (d : Driver) (b : NodeId) → d ≡ Constant false → Contains (driver_needs p d) b → ⊥
+pub far_needs : (p : Parts) (d : Driver) (b : NodeId) → d ≡ Constant false → Contains (driver_needs p d) b → ⊥
 far_needs p d b e c = none_contained b (subst (λ (x : Driver). Contains (driver_needs p x) b) e c)
 
 -- only the ports' nets depend on anything
