@@ -2,7 +2,7 @@ pub mod Plain
 pub mod Reach
 pub mod Rules
 pub mod Sound
-pub mod Tests
+pub mod FromRules
 pub mod Histories
 pub mod Together
 pub mod Examples

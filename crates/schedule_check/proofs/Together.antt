@@ -24,7 +24,7 @@ use Rattle.schedule_check.specs.OneGateCase.{one_gate_case, AcceptedAgrees}
 use Rattle.schedule_check.proofs.Plain.{design, answer, plain, input_of, output_of, no, only_at, only_element, is_none}
 use Rattle.schedule_check.proofs.Reach.{parts}
 use Rattle.schedule_check.proofs.Sound.{IsSound, same_number, plainest}
-use Rattle.schedule_check.proofs.Tests.{accepted_sound, or_false}
+use Rattle.schedule_check.proofs.FromRules.{accepted_sound, or_false}
 use Rattle.schedule_check.proofs.Histories.{output, Shows, next_value, input_small, input_driven, opened_shows, after_shows, one_history}
 
 -- the net of the register

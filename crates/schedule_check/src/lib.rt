@@ -10,3 +10,6 @@ pub mod facts;
 mod one_gate;
 
 pub use one_gate::{accepted_agrees, is_accepted};
+
+#[cfg(test)]
+mod tests;

@@ -2,7 +2,7 @@
 use Rattle.std.proofs.Common.{◌≡◌, ◌∙◌, Bool, true, false, sym}
 use Rattle.schedule_check.proofs.Plain.{not_both}
 use Rattle.schedule_check.proofs.Sound.{from_tests, gate_sound, frame_sound, map_sound, sound_accepted}
-use Rattle.schedule_check.proofs.Tests.{accepted_sound}
+use Rattle.schedule_check.proofs.FromRules.{accepted_sound}
 use Rattle.schedule_check.proofs.one_gate.is_accepted.Goals as goal
 use Rattle.schedule_check.proofs.one_gate.is_accepted.Goals.{then-is_gate_sound, else-is_gate_sound}
 
