@@ -3,9 +3,8 @@ use Rattle.std.proofs.Common.{◌≡◌, ℕ, zero, suc, ◌+◌, ◌-◌, ◌<�
 use Rattle.std.proofs.lemmas.Bool.Decides.{nat_tests}
 use Rattle.std.proofs.lemmas.Grind.{common_steps}
 use Rattle.std.proofs.lemmas.List.{drop_more, drop-drop, get_or-drop}
-use Rattle.verilog_lex.specs.declared.bytes.Class.{Class}
 use Rattle.verilog_lex.specs.declared.bytes.Class.TheVariants.{White, Line}
-use Rattle.verilog_lex.specs.Bytes.{is_white, is_in, run, first, second}
+use Rattle.verilog_lex.specs.Bytes.{is_white, run, first, second}
 use Rattle.verilog_lex.specs.Blanks.{comment_len, attribute_len, blank_len, after_blanks}
 
 -- what holds of the number in each branch of a choice holds of the number chosen

@@ -11,7 +11,7 @@ use Rattle.verilog_lex.specs.declared.piece.Piece.TheVariants.{Blank, Setting, L
 use Rattle.verilog_lex.specs.declared.token.Token.{Token}
 use Rattle.verilog_lex.specs.declared.token.TokenKind.{TokenKind}
 use Rattle.verilog_lex.specs.Pieces.{first_piece, fault_at, IsWithin}
-use Rattle.verilog_lex.specs.Reads.{Stands, with_token, Reads, ends, passes, sets, takes, fails, Answers, IsPartOf}
+use Rattle.verilog_lex.specs.Reads.{with_token, Reads, ends, passes, sets, takes, fails, Answers, IsPartOf}
 
 -- an answer with tokens before its tokens
 abbrev pub with_tokens : List Token → Result (List Token) LexFault → Result (List Token) LexFault

@@ -1,10 +1,10 @@
 -- A value only grows with more digits.
-use Rattle.std.proofs.Common.{◌≡◌, ℕ, ◌+◌, ◌*◌, ◌^◌, ◌<◌, ◌≤◌, List, [], ◌∷◌, length, get_or, drop, fold, refl, arith}
+use Rattle.std.proofs.Common.{◌≡◌, ℕ, ◌+◌, ◌^◌, ◌<◌, ◌≤◌, List, [], ◌∷◌, length, get_or, drop, fold, refl, arith}
 use Rattle.std.proofs.lemmas.Bool.Decides.{nat_tests}
 use Rattle.std.proofs.lemmas.List.{drop_more}
 use Rattle.verilog_lex.specs.declared.bytes.Base.{Base}
 use Rattle.verilog_lex.specs.declared.bytes.Base.TheVariants.{Binary, Octal, Decimal, Hexadecimal}
-use Rattle.verilog_lex.specs.Numbers.{add_digit, digit_value, radix_of, value_of}
+use Rattle.verilog_lex.specs.Numbers.{add_digit, radix_of, value_of}
 
 -- a base has one digit at least
 pub radix_of-positive : (base : Base) → 1 ≤ radix_of base

@@ -1,10 +1,9 @@
 -- Each piece has a byte and lies in its text.
-use Rattle.std.proofs.Common.{◌≡◌, ℕ, zero, suc, ◌+◌, ◌-◌, ◌*◌, ◌%◌, ◌^◌, ◌<◌, ◌≤◌, Bool, true, false, not, ◌==◌, ◌&&◌, ◌||◌, nat_lt, nat_le, List, [], ◌∷◌, length, get_or, take, drop, length-drop, length-take, Option, Some, None, option_map, unwrap_or, if◌then◌else◌, slice_index, bytes_eq, refl, sym, ap, subst, ◌∙◌, arith}
+use Rattle.std.proofs.Common.{◌≡◌, ℕ, zero, suc, ◌+◌, ◌-◌, ◌<◌, ◌≤◌, Bool, true, false, ◌==◌, ◌&&◌, ◌||◌, nat_lt, List, [], ◌∷◌, length, take, drop, length-drop, Option, Some, None, option_map, unwrap_or, if◌then◌else◌, slice_index, bytes_eq, refl, sym, ap, ◌∙◌, arith}
 use Rattle.std.specs.Prelude.{codes}
-use Rattle.std.specs.Char.{is_ascii_digit, is_ascii_alphabetic, is_ascii_alphanumeric}
+use Rattle.std.specs.Char.{is_ascii_digit, is_ascii_alphabetic}
 use Rattle.std.specs.Option.{option_map_or}
 use Rattle.std.proofs.lemmas.Bool.Decides.{nat_tests}
-use Rattle.std.proofs.lemmas.Grind.{common_steps}
 use Rattle.std.proofs.lemmas.List.Sums.{prefix_len-le-length}
 use Rattle.verilog_lex.specs.declared.bytes.Base.{Base}
 use Rattle.verilog_lex.specs.declared.bytes.Class.{Class}
@@ -16,11 +15,9 @@ use Rattle.verilog_lex.specs.declared.piece.Piece.TheVariants.{Blank, Setting, L
 use Rattle.verilog_lex.specs.declared.token.TokenKind.{TokenKind}
 use Rattle.verilog_lex.specs.declared.token.TokenKind.TheVariants as kind
 use Rattle.verilog_lex.specs.Bytes.{is_in, run, first, second}
-use Rattle.verilog_lex.specs.Blanks.{comment_len, attribute_len, blank_len, after_blanks}
-use Rattle.verilog_lex.specs.Words.{word_kind}
+use Rattle.verilog_lex.specs.Blanks.{blank_len, after_blanks}
 use Rattle.verilog_lex.specs.Numbers.{base_of, value_of, is_constant, digits_piece, constant_piece, number_piece}
-use Rattle.verilog_lex.specs.Pieces.{IsWithin, is_mark, is_parted, word_piece, escaped_piece, setting_piece, is_cell_directive, directive_piece, token_piece, first_piece}
-use Rattle.verilog_lex.proofs.BlankSteps.{chosen, blank_len-positive}
+use Rattle.verilog_lex.specs.Pieces.{IsWithin, is_mark, is_parted, word_piece, escaped_piece, setting_piece, is_cell_directive, directive_piece, token_piece}
 
 both : (a b : Bool) → (a && b) ≡ true → (a ≡ true) × (b ≡ true)
 both a b e = grind (arith, nat_tests)

@@ -1,7 +1,7 @@
 -- Each piece is one step of the cutting.
 use Rattle.std.proofs.Common.{Err, sym, subst}
 use Rattle.verilog_lex.specs.Reads.{Answers}
-use Rattle.verilog_lex.proofs.Cutting.{IsCutting, cutting-blank, cutting-setting, cutting-token, cutting-fault, cutting-ends}
+use Rattle.verilog_lex.proofs.Cutting.{cutting-blank, cutting-setting, cutting-token, cutting-fault, cutting-ends}
 use Rattle.verilog_lex.proofs.lex.tokens.Goals as goal
 
 pub pieces-preserved-in-Blank : goal.pieces-preserved-in-Blank

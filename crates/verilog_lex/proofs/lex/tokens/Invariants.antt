@@ -1,8 +1,5 @@
 -- What the text holds from here on is, behind the tokens found, what it holds from its start on.
-use Rattle.std.proofs.Common.{◌≡◌, ℕ, ◌-◌, ◌≤◌, List, length, true, Result}
-use Rattle.verilog_lex.specs.declared.fault.LexFault.{LexFault}
-use Rattle.verilog_lex.specs.declared.token.Token.{Token}
-use Rattle.verilog_lex.specs.Reads.{Reads}
+use Rattle.std.proofs.Common.{◌-◌, length}
 use Rattle.verilog_lex.proofs.Cutting.{IsCutting}
 use Rattle.verilog_lex.proofs.lex.tokens.Given as goal
 

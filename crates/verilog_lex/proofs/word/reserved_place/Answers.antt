@@ -1,6 +1,5 @@
 -- A word can only be one of the reserved words that begin with its letter.
 use Rattle.std.proofs.Common.{◌≡◌, [], bytes_eq, get_or, sym, ◌∙◌, ap, arith, below_more}
-use Rattle.std.proofs.lemmas.Bool.Decides.{nat_tests}
 use Rattle.std.proofs.lemmas.Option.{get_or_from_slice_get}
 use Rattle.verilog_lex.specs.Words.{reserved_words}
 use Rattle.verilog_lex.proofs.Reserved.{no_letter, no_bucket, in_bucket, reserved_words-length}
