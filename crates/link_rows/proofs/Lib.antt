@@ -9,3 +9,6 @@ pub mod Grown
 pub mod Held
 pub mod Lasts
 pub mod Moves
+pub mod WordBits
+pub mod Scans
+pub mod Lengths

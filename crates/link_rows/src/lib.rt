@@ -4,5 +4,6 @@
 
 mod arrays;
 mod rows;
+mod words;
 
 pub use rows::Rows;
