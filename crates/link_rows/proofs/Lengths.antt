@@ -1,5 +1,5 @@
 -- Rows are given more words, one after another.
-use Rattle.std.proofs.Common.{◌≡◌, ℕ, ◌+◌, ◌*◌, ◌/◌, ◌%◌, ◌<◌, ◌≤◌, eqb, List, [], ◌++◌, ◌⊎◌, ◌-◌, map, replicate, length, get_or, set, refl, sym, ap, ◌∙◌, subst, inl, inr, arith}
+use Rattle.std.proofs.Common.{◌≡◌, ℕ, ◌+◌, ◌/◌, ◌%◌, ◌<◌, ◌≤◌, eqb, List, [], ◌++◌, ◌-◌, map, replicate, length, get_or, set, refl, sym, ap, ◌∙◌, subst, inl, inr, arith}
 use Rattle.std.specs.Int.{bit_at}
 use Rattle.std.proofs.lemmas.Bool.{cases_eq}
 use Rattle.std.proofs.lemmas.List.{get_or-set_same, get_or-set_other, get_or-map, length-map, length-set, map-set, set-get_or}
@@ -18,7 +18,7 @@ pub record Lengthened (old now : List (List ℕ)) (count row : ℕ) : Type 0 whe
 pub lengthened-start : (rows : List (List ℕ)) (count : ℕ) → Lengthened rows rows count 0
 lengthened-start rows count = record {
   same = record { count = refl; bits = λ row at. refl; longer = λ row. omega arith };
-  room = λ r below. absurd (omega arith)
+  room = λ r below. absurd (omega arith);
 }
 
 pub lengthened-step : (old now : List (List ℕ)) (count row : ℕ) (words : List ℕ) → Lengthened old now count row → row < length now → words ≡ words_at now row ++ replicate (count - length (words_at now row)) 0
@@ -33,19 +33,22 @@ lengthened-step old now count row words lengthened within is =
       same = record {
         count = length-set now row words ∙ lengthened.same.count;
         bits = λ r at. elim (cases_eq r row) [
-          inl same ↦
-            subst (λ n. bit_in (words_at (set now row words) n) at ≡ bit_in (words_at old n) at) (sym same)
+          | inl same ↦
+              subst (λ n. bit_in (words_at (set now row words) n) at ≡ bit_in (words_at old n) at) (sym same)
               (ap (λ ws. bit_in ws at) (here ∙ is) ∙ bit_in-more own more at ∙ lengthened.same.bits row at)
-        | inr other ↦ ap (λ ws. bit_in ws at) (there r other) ∙ lengthened.same.bits r at ];
+          | inr other ↦ ap (λ ws. bit_in ws at) (there r other) ∙ lengthened.same.bits r at
+        ];
         longer = λ r. elim (cases_eq r row) [
-          inl same ↦ subst (λ n. length (words_at old n) ≤ length (words_at (set now row words) n)) (sym same) (omega (arith, ap length here, longer, lengthened.same.longer row))
-        | inr other ↦ omega (arith, ap length (there r other), lengthened.same.longer r) ]
+          | inl same ↦ subst (λ n. length (words_at old n) ≤ length (words_at (set now row words) n)) (sym same) (omega (arith, ap length here, longer, lengthened.same.longer row))
+          | inr other ↦ omega (arith, ap length (there r other), lengthened.same.longer r)
+        ];
       };
       room = λ r below. elim (cases_eq r row) [
-        inl same ↦ subst (λ n. count ≤ length (words_at (set now row words) n)) (sym same) (omega (arith, ap length here, longer))
-      | inr other ↦
-          let earlier = lengthened.room r (omega (arith, other)) in
-          omega (arith, ap length (there r other), earlier) ]
+        | inl same ↦ subst (λ n. count ≤ length (words_at (set now row words) n)) (sym same) (omega (arith, ap length here, longer))
+        | inr other ↦
+            let earlier = lengthened.room r (omega (arith, other)) in
+            omega (arith, ap length (there r other), earlier)
+      ];
     }
 
 -- the same, of the rows as the code has them
@@ -56,12 +59,12 @@ module _ {V : Type 0} (items : V → List ℕ) (old : List (List ℕ)) (rows : L
   pub lengthened-row : Lengthened old (map items rows) count row → items new ≡ items own ++ replicate (count - length (items own)) 0 → Lengthened old (map items (set rows row new)) count (row + 1)
   lengthened-row lengthened is =
       let longer : items new ≡ words_at (map items rows) row ++ replicate (count - length (words_at (map items rows) row)) 0 =
-          is ∙ ap (λ ws. ws ++ replicate (count - length ws) 0) own-words in
+      is ∙ ap (λ ws. ws ++ replicate (count - length ws) 0) own-words in
       let inside : row < length (map items rows) = subst (λ n. row < n) (sym (length-map rows items)) within in
       subst (λ ws. Lengthened old ws count (row + 1)) (sym (map-set items rows row new)) (lengthened-step old (map items rows) count row (items new) lengthened inside longer)
 
   pub same-row : SameBits old (map items rows) → items new ≡ items own → SameBits old (map items (set rows row new))
   same-row same is =
       let kept : map items (set rows row new) ≡ map items rows =
-          map-set items rows row new ∙ ap (set (map items rows) row) (is ∙ own-words) ∙ set-get_or (map items rows) row [] in
+      map-set items rows row new ∙ ap (set (map items rows) row) (is ∙ own-words) ∙ set-get_or (map items rows) row [] in
       subst (SameBits old) (sym kept) same

@@ -12,3 +12,4 @@ pub mod Moves
 pub mod WordBits
 pub mod Scans
 pub mod Lengths
+pub mod Tables

@@ -1,5 +1,5 @@
 -- The bits of the words are gone through from a place on.
-use Rattle.std.proofs.Common.{◌≡◌, ℕ, ◌+◌, ◌-◌, ◌*◌, ◌/◌, ◌%◌, ◌<◌, ◌≤◌, Bool, true, false, eqb, List, ◌⊎◌, Option, Some, None, length, get_or, refl, sym, ap, ◌∙◌, subst, inl, inr, arith}
+use Rattle.std.proofs.Common.{◌≡◌, ℕ, ◌+◌, ◌-◌, ◌/◌, ◌%◌, ◌<◌, ◌≤◌, true, false, eqb, List, Some, None, get_or, ap, ◌∙◌, inl, inr, arith}
 use Rattle.std.specs.Int.{bit_at}
 use Rattle.std.proofs.lemmas.Bool.{cases_lt}
 use Rattle.link_rows.specs.Words.{bit_in, IsFirstClearIn, IsFirstClearBelow}
@@ -21,8 +21,9 @@ pub scanned-word : (words : List ℕ) (from at : ℕ) → Scanned words from at 
 scanned-word words from at scanned none = record {
   reached = omega (arith, scanned.reached);
   set = λ k low high. elim (cases_lt k at) [
-    inl early ↦ scanned.set k low early
-  | inr late ↦ bit_of_word words at k (omega arith) ∙ ap (λ b. eqb b 1) (none (k % 64) (omega arith) (omega arith)) ]
+    | inl early ↦ scanned.set k low early
+    | inr late ↦ bit_of_word words at k (omega arith) ∙ ap (λ b. eqb b 1) (none (k % 64) (omega arith) (omega arith))
+  ];
 }
 
 -- the word has a clear bit
@@ -30,15 +31,16 @@ module _ (words : List ℕ) (width from at clear : ℕ) (scanned : Scanned words
   before : (k : ℕ) → from ≤ k → k < at - at % 64 + clear → bit_in words k ≡ true
   before k low high =
       elim (cases_lt k at) [
-        inl early ↦ scanned.set k low early
-      | inr late ↦ bit_of_word words at k (omega (arith, some.1)) ∙ ap (λ b. eqb b 1) (some.3 (k % 64) (omega (arith, some.1)) (omega (arith, some.1))) ]
+        | inl early ↦ scanned.set k low early
+        | inr late ↦ bit_of_word words at k (omega (arith, some.1)) ∙ ap (λ b. eqb b 1) (some.3 (k % 64) (omega (arith, some.1)) (omega (arith, some.1)))
+      ]
 
   pub found-below : at - at % 64 + clear < width → IsFirstClearBelow words width from (Some (at - at % 64 + clear))
   found-below within =
       let place = at - at % 64 + clear in
       let low : from ≤ place = omega (arith, scanned.reached, some.0) in
       let here : bit_in words place ≡ false =
-          bit_of_word words at place (omega (arith, some.1)) ∙ ap (λ n. eqb (bit_at (get_or words (at / 64) 0) n) 1) (omega (arith, some.1)) ∙ ap (λ b. eqb b 1) some.2 in
+      bit_of_word words at place (omega (arith, some.1)) ∙ ap (λ n. eqb (bit_at (get_or words (at / 64) 0) n) 1) (omega (arith, some.1)) ∙ ap (λ b. eqb b 1) some.2 in
       (low, within, here, before)
 
   pub found-beyond : width ≤ at - at % 64 + clear → IsFirstClearBelow words width from None

@@ -1,9 +1,9 @@
 -- One bit of the words is set or cleared, and the first clear bit of one word.
-use Rattle.std.proofs.Common.{◌≡◌, ℕ, ◌+◌, ◌-◌, ◌*◌, ◌/◌, ◌%◌, ◌^◌, ◌<◌, ◌≤◌, Bool, true, false, if◌then◌else◌, eqb, List, Option, Some, None, length, get_or, set, refl, sym, ap, ◌∙◌, subst, inl, inr, arith, w64}
+use Rattle.std.proofs.Common.{◌≡◌, ℕ, ◌+◌, ◌-◌, ◌*◌, ◌/◌, ◌%◌, ◌^◌, ◌<◌, ◌≤◌, Bool, true, false, if◌then◌else◌, eqb, List, Some, None, length, get_or, set, refl, sym, ap, ◌∙◌, inl, inr, arith, w64}
 use Rattle.std.specs.Int.{bit_at, bit_not, trailing_zeros}
 use Rattle.std.proofs.lemmas.Bool.{cases_eq, cases_lt, eq-eqb, ne_eqb}
 use Rattle.std.proofs.lemmas.List.{get_or-set_same, get_or-set_other}
-use Rattle.std.proofs.lemmas.Nat.{shr-shr, shr_le, pow_pos}
+use Rattle.std.proofs.lemmas.Nat.{shr-shr, shr_le}
 use Rattle.std.proofs.lemmas.Nat.Bits.{bit_at-zero, bit_at_not, bit_at-trailing_zeros, bit_at-lt, bit_at_above}
 use Rattle.link_rows.specs.Words.{bit_in, IsFirstClearIn}
 
@@ -21,21 +21,23 @@ pub bit_in-set : (words : List ℕ) (at k new : ℕ) (value : Bool) → at < 64 
     → bit_in (set words (at / 64) new) k ≡ (if eqb k at then value else bit_in words k)
 bit_in-set words at k new value within here others =
     elim (cases_eq (k / 64) (at / 64)) [
-      inl word ↦
-        let read : get_or (set words (at / 64) new) (k / 64) 0 ≡ new = ap (λ n. get_or (set words (at / 64) new) n 0) word ∙ get_or-set_same words (at / 64) new 0 (omega arith) in
-        let bit : bit_in (set words (at / 64) new) k ≡ eqb (bit_at new (k % 64)) 1 = ap (λ w. eqb (bit_at w (k % 64)) 1) read in
-        elim (cases_eq (k % 64) (at % 64)) [
-          inl place ↦
-            let same : k ≡ at = omega arith in
-            bit ∙ ap (λ n. eqb (bit_at new n) 1) place ∙ ap (λ n. eqb n 1) here ∙ bit_for-is value ∙ sym (ap (λ b. if b then value else bit_in words k) (eq-eqb k at same))
-        | inr other ↦
-            let differ : k ≡ at → ⊥ = λ same. other (ap (λ n. n % 64) same) in
-            bit ∙ ap (λ n. eqb n 1) (others (k % 64) (omega arith) other) ∙ ap (λ n. eqb (bit_at (get_or words n 0) (k % 64)) 1) (sym word)
-              ∙ sym (ap (λ b. if b then value else bit_in words k) (ne_eqb k at differ)) ]
-    | inr other ↦
-        let differ : k ≡ at → ⊥ = λ same. other (ap (λ n. n / 64) same) in
-        ap (λ w. eqb (bit_at w (k % 64)) 1) (get_or-set_other words (at / 64) (k / 64) new 0 other)
-          ∙ sym (ap (λ b. if b then value else bit_in words k) (ne_eqb k at differ)) ]
+      | inl word ↦
+          let read : get_or (set words (at / 64) new) (k / 64) 0 ≡ new = ap (λ n. get_or (set words (at / 64) new) n 0) word ∙ get_or-set_same words (at / 64) new 0 (omega arith) in
+          let bit : bit_in (set words (at / 64) new) k ≡ eqb (bit_at new (k % 64)) 1 = ap (λ w. eqb (bit_at w (k % 64)) 1) read in
+          elim (cases_eq (k % 64) (at % 64)) [
+            | inl place ↦
+                let same : k ≡ at = omega arith in
+                bit ∙ ap (λ n. eqb (bit_at new n) 1) place ∙ ap (λ n. eqb n 1) here ∙ bit_for-is value ∙ sym (ap (λ b. if b then value else bit_in words k) (eq-eqb k at same))
+            | inr other ↦
+                let differ : k ≡ at → ⊥ = λ same. other (ap (λ n. n % 64) same) in
+                bit ∙ ap (λ n. eqb n 1) (others (k % 64) (omega arith) other) ∙ ap (λ n. eqb (bit_at (get_or words n 0) (k % 64)) 1) (sym word)
+                ∙ sym (ap (λ b. if b then value else bit_in words k) (ne_eqb k at differ))
+          ]
+      | inr other ↦
+          let differ : k ≡ at → ⊥ = λ same. other (ap (λ n. n / 64) same) in
+          ap (λ w. eqb (bit_at w (k % 64)) 1) (get_or-set_other words (at / 64) (k / 64) new 0 other)
+          ∙ sym (ap (λ b. if b then value else bit_in words k) (ne_eqb k at differ))
+    ]
 
 module _ (word from : ℕ) (fits : word < 2 ^ 64) (within : from < 64) where
   -- the clear bits from the place on, as ones from bit 0 on
@@ -65,9 +67,10 @@ module _ (word from : ℕ) (fits : word < 2 ^ 64) (within : from < 64) where
       let lowest = bit_at-trailing_zeros w64 n positive small in
       let shifted = clear-bit t in
       let below : from + t < 64 =
-          elim (cases_lt (from + t) 64) [
-            inl inside ↦ inside
-          | inr past ↦ absurd (omega (arith, bit_at_above (bit_not w64 word) 64 (from + t) (omega arith) past, shifted, lowest.1)) ] in
+      elim (cases_lt (from + t) 64) [
+        | inl inside ↦ inside
+        | inr past ↦ absurd (omega (arith, bit_at_above (bit_not w64 word) 64 (from + t) (omega arith) past, shifted, lowest.1))
+      ] in
       let here : bit_at word (from + t) ≡ 0 = omega (arith, bit_at_not w64 word (from + t) fits below, shifted, lowest.1, bit_at-lt word (from + t)) in
       let earlier : (k : ℕ) → from ≤ k → k < from + t → bit_at word k ≡ 1 = λ k reached high. set-bit k reached (omega arith) (lowest.2 (k - from) (omega arith)) in
       (omega arith, below, here, earlier)

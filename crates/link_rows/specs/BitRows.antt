@@ -22,14 +22,14 @@ clear_table rows width = record { rows = replicate rows (replicate width false);
 abbrev pub widened : BitTable → ℕ → BitTable
 widened table width = record {
   rows = map (λ bits. bits ++ replicate (width - table.width) false) table.rows;
-  width = max width table.width
+  width = max width table.width;
 }
 
 -- a table in which one bit is set or cleared
 abbrev pub with_bit : BitTable → ℕ → ℕ → Bool → BitTable
 with_bit table row at value = record {
   rows = slice_set table.rows row (slice_set (bits_at table row) at value);
-  width = table.width
+  width = table.width;
 }
 
 -- the first clear bit from a place on: it is clear and all before it are set, or all from there on are set

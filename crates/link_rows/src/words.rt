@@ -1,8 +1,9 @@
 //! The bits of one row, in words of 64 bits each, the first bit lowest.
-ghost use Rattle.std.specs.Prelude.{◌≡◌, ◌++◌, ◌-◌, replicate, ℕ, ◌*◌, ◌<◌, ◌≤◌, ◌==◌, length, if◌then◌else◌, OnOk, OnErr, map};
+ghost use Rattle.std.specs.Prelude.{◌≡◌, ◌++◌, ◌-◌, replicate, ℕ, ◌*◌, ◌<◌, ◌≤◌, ◌==◌, length, if◌then◌else◌, IfOk, OnOk, OnErr, map};
 ghost use Rattle.link_rows.specs.Words.{bit_in, words_at, SameBits, IsFirstClearIn, IsFirstClearBelow};
 
 use emu_io::NoMemory;
+use std::alloc::Global;
 
 const WORD_BITS: u32 = 64;
 
@@ -66,6 +67,17 @@ fn first_clear_in(word: u64, from: u32) -> Option<u32>
         return None;
     }
     Some(from + clear.trailing_zeros())
+}
+
+/// So many rows of so many words, all clear.
+pub(crate) fn clear_rows(alloc: Global, rows: u32, count: usize) -> Result<Vec<Vec<u64>>, NoMemory>
+    ensures { IfOk result (λ made. map (λ words. words.items) made.items ≡ replicate rows (replicate count 0)) }
+{
+    let mut made = Vec::new(alloc);
+    'rows: for _ in 0..rows {
+        made.push(vec![in alloc; 0; count]?)?;
+    }
+    Ok(made)
 }
 
 /// Gives each row at least so many words. The new ones are clear.

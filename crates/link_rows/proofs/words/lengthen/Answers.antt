@@ -1,4 +1,4 @@
-use Rattle.std.proofs.Common.{ℕ, ◌<◌, length, arith}
+use Rattle.std.proofs.Common.{◌<◌, length, arith}
 use Rattle.std.proofs.lemmas.List.{length-map}
 use Rattle.link_rows.proofs.Lengths.{lengthened-row, same-row}
 use Rattle.link_rows.proofs.words.lengthen.Goals as goal
