@@ -8,13 +8,13 @@ use Rattle.link_rows.specs.Links.{loose, link_of, first_at, IsChain, IsLinked}
 use Rattle.link_rows.proofs.Homes.{home-with_more}
 use Rattle.link_rows.proofs.Chains.{chain_same}
 
-get_or-replicate_same : {A : Type 0} (n k : ℕ) (d : A) → get_or (replicate n d) k d ≡ d
+pub get_or-replicate_same : {A : Type 0} (n k : ℕ) (d : A) → get_or (replicate n d) k d ≡ d
 get_or-replicate_same zero k d = refl
 get_or-replicate_same (suc n) zero d = refl
 get_or-replicate_same (suc n) (suc k) d = get_or-replicate_same n k d
 
 -- what is put last is what is read there anyway
-get_or-more : {A : Type 0} (xs : List A) (n k : ℕ) (d : A) → get_or (xs ++ replicate n d) k d ≡ get_or xs k d
+pub get_or-more : {A : Type 0} (xs : List A) (n k : ℕ) (d : A) → get_or (xs ++ replicate n d) k d ≡ get_or xs k d
 get_or-more [] n k d = get_or-replicate_same n k d
 get_or-more (x ∷ xs) n zero d = refl
 get_or-more (x ∷ xs) n (suc k) d = get_or-more xs n k d

@@ -9,3 +9,7 @@ pub mod Grown
 pub mod Held
 pub mod Lasts
 pub mod Moves
+pub mod WordBits
+pub mod Scans
+pub mod Lengths
+pub mod Tables
