@@ -34,8 +34,8 @@ not_there (Some n) h = absurd (cc)
 pub sound_cell : (names : List (List ℕ)) (written : WrittenCell) → written_fault names written ≡ None → (tables_are_sized written.kind ≡ true) × (is_within_limits written.kind ≡ true) × (place_among names written.name ≡ None)
 unfolding written_fault
 sound_cell names written none =
-  let tests = no_fault (has_twice (pins_of written.kind)) (tables_are_sized written.kind) (is_within_limits written.kind) (is_some (place_among names written.name)) (length names) none in
-  (tests.0, tests.1, not_there (place_among names written.name) tests.2)
+    let tests = no_fault (has_twice (pins_of written.kind)) (tables_are_sized written.kind) (is_within_limits written.kind) (is_some (place_among names written.name)) (length names) none in
+    (tests.0, tests.1, not_there (place_among names written.name) tests.2)
 
 -- the cell that a fault speaks of
 abbrev pub concerns : CellFault → Option ℕ
@@ -59,7 +59,7 @@ beside_concerns : (names : List (List ℕ)) (o : Option WrittenCell) (fault : Ce
 unfolding written_fault
 beside_concerns names None fault is = sym (ap (option_and_then concerns) is)
 beside_concerns names (Some written) fault is =
-  first_concerns (has_twice (pins_of written.kind)) (tables_are_sized written.kind) (is_within_limits written.kind) (is_some (place_among names written.name)) (length names) fault is
+    first_concerns (has_twice (pins_of written.kind)) (tables_are_sized written.kind) (is_within_limits written.kind) (is_some (place_among names written.name)) (length names) fault is
 
 -- the first fault of a list is that of a cell
 some_cell : (ds : List Data) (fault : CellFault) → IsFirstFault ds fault → concerns fault ≡ None → ⊥

@@ -14,9 +14,9 @@ texts names = map (λ name. name.now) names
 
 pub bytes_eq-swapped : (a b : List ℕ) → bytes_eq a b ≡ bytes_eq b a
 bytes_eq-swapped a b =
-  let there = bytes_eq-Decides a b in
-  let back = bytes_eq-Decides b a in
-  same_from_decides (bytes_eq a b) (bytes_eq b a) there ((λ t. sym (back.0 t)), (λ e. back.1 (sym e)))
+    let there = bytes_eq-Decides a b in
+    let back = bytes_eq-Decides b a in
+    same_from_decides (bytes_eq a b) (bytes_eq b a) there ((λ t. sym (back.0 t)), (λ e. back.1 (sym e)))
 
 or-true : (a : Bool) → (a || true) ≡ true
 or-true true = refl
@@ -55,23 +55,23 @@ not_before added false is was_added = refl
 pub has_twice-front : (xs ys : List (List ℕ)) → has_twice xs ≡ true → has_twice (xs ++ ys) ≡ true
 has_twice-front [] ys h = cc
 has_twice-front (x ∷ xs) ys h =
-  rw (list_any-append (bytes_eq x) xs ys)
+    rw (list_any-append (bytes_eq x) xs ys)
     (or-grows (list_any (bytes_eq x) xs) (has_twice xs) (list_any (bytes_eq x) ys) (has_twice (xs ++ ys)) h (has_twice-front xs ys))
 
 -- one pin more: it stood already, or another stood twice
 pub has_twice-push : (xs : List (List ℕ)) (pin : List ℕ) → has_twice (xs ++ pin ∷ []) ≡ (has_twice xs || list_any (bytes_eq pin) xs)
 has_twice-push [] pin = refl
 has_twice-push (x ∷ xs) pin =
-  rw (list_any-append (bytes_eq x) xs (pin ∷ []), has_twice-push xs pin, or-false, bytes_eq-swapped x pin)
+    rw (list_any-append (bytes_eq x) xs (pin ∷ []), has_twice-push xs pin, or-false, bytes_eq-swapped x pin)
     (or-exchange (list_any (bytes_eq x) xs) (bytes_eq pin x) (has_twice xs) (list_any (bytes_eq pin) xs))
 
 -- a name that stood before stands twice
 pub found_twice : (names : List (Bor (List ℕ))) (i : ℕ) (d : Bor (List ℕ)) → i < length names → list_any (bytes_eq (get_or names i d).now) (texts (take i names)) ≡ true → has_twice (texts names) ≡ true
 found_twice names i d within stood =
-  let more : has_twice (texts (take (i + 1) names)) ≡ true = rw (take_more names i d within, map-append, has_twice-push, stood) (or-true (has_twice (texts (take i names)))) in
-  let front = has_twice-front (texts (take (i + 1) names)) (texts (drop (i + 1) names)) more in
-  let P : List (Bor (List ℕ)) → Type 0 = λ ns. has_twice (texts ns) ≡ true in
-  subst P (take-append-drop (i + 1) names) (rw map-append front)
+    let more : has_twice (texts (take (i + 1) names)) ≡ true = rw (take_more names i d within, map-append, has_twice-push, stood) (or-true (has_twice (texts (take i names)))) in
+    let front = has_twice-front (texts (take (i + 1) names)) (texts (drop (i + 1) names)) more in
+    let P : List (Bor (List ℕ)) → Type 0 = λ ns. has_twice (texts ns) ≡ true in
+    subst P (take-append-drop (i + 1) names) (rw map-append front)
 
 -- one that did not stand before leaves each name once
 pub still_once : (names : List (Bor (List ℕ))) (i : ℕ) (d : Bor (List ℕ)) → i < length names → has_twice (texts (take i names)) ≡ false → list_any (bytes_eq (get_or names i d).now) (texts (take i names)) ≡ false → has_twice (texts (take (i + 1) names)) ≡ false
@@ -80,5 +80,5 @@ still_once names i d within once new = rw (take_more names i d within, map-appen
 -- what is seen after one name more
 pub seen_more : (names : List (Bor (List ℕ))) (i : ℕ) (d : Bor (List ℕ)) (q : List ℕ) → i < length names → list_any (bytes_eq q) (texts (take (i + 1) names)) ≡ cond (bytes_eq (get_or names i d).now q) true (list_any (bytes_eq q) (texts (take i names)))
 seen_more names i d q within =
-  rw (take_more names i d within, map-append, list_any-append, or-false, bytes_eq-swapped q (get_or names i d).now)
+    rw (take_more names i d within, map-append, list_any-append, or-false, bytes_eq-swapped q (get_or names i d).now)
     (or-cond (list_any (bytes_eq q) (texts (take i names))) (bytes_eq (get_or names i d).now q))

@@ -152,11 +152,7 @@ fn gate_clock_from(alloc: Global, value: &Value) -> Result<WrittenKind, ShapeFau
 
 /// The address of a port, absent exactly where the memory has no address bits.
 #[tactic(auto, unfolding(crate::specs::Kinds::address_of))]
-fn address_from(
-    alloc: Global,
-    value: &Value,
-    address_bits: u32,
-) -> Result<Option<Text>, ShapeFault>
+fn address_from(alloc: Global, value: &Value, address_bits: u32) -> Result<Option<Text>, ShapeFault>
     ensures { Reads (address_of address_bits (view value.now)) result }
 {
     if address_bits > 0 {

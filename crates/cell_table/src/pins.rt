@@ -116,14 +116,22 @@ impl<'c> Pins<'c> {
         Ok(())
     }
 
+    /// A pin that feeds a flip-flop or a latch, unless it is the cell's own output `q`.
+    fn add_other(&mut self, q: &Text, pin: &'c Text) -> Result<(), NoMemory>
+        ensures { OnOk result (self.new ≡ self.old ++ others q.now (pin.now ∷ [])) }
+    {
+        if pin.bytes() != q.bytes() {
+            self.add(pin)?;
+        }
+        Ok(())
+    }
+
     /// Those of the pins that are not `q`.
     fn add_others(&mut self, q: &Text, pins: &'c [Text]) -> Result<(), NoMemory>
         ensures { OnOk result (self.new ≡ self.old ++ others q.now pins.now) }
     {
         for pin in pins {
-            if pin.bytes() != q.bytes() {
-                self.add(pin)?;
-            }
+            self.add_other(q, pin)?;
         }
         Ok(())
     }
@@ -133,12 +141,7 @@ impl<'c> Pins<'c> {
         ensures { OnOk result (self.new ≡ self.old ++ feed_pins q.now feed.now) }
     {
         match feed {
-            WrittenFeed::Pin(pin) => {
-                if pin.bytes() != q.bytes() {
-                    self.add(pin)?;
-                }
-                Ok(())
-            }
+            WrittenFeed::Pin(pin) => self.add_other(q, pin),
             WrittenFeed::Table { pins, .. } => self.add_others(q, pins.as_slice()),
         }
     }

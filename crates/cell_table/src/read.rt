@@ -76,11 +76,7 @@ fn cells_from(alloc: Global, values: &[Value]) -> Result<CellTable, CellFault>
 }
 
 /// Puts a cell at the end, with a name that is new.
-fn keep(
-    cells: &mut Arena<CellId, Cell>,
-    names: &mut Names,
-    cell: Cell,
-) -> Result<(), NoMemory>
+fn keep(cells: &mut Arena<CellId, Cell>, names: &mut Names, cell: Cell) -> Result<(), NoMemory>
     requires room { length cells.old < item_limit }
     requires named { names.old ≡ names_of cells.old }
     requires new { place_among names.old cell.name ≡ None }
@@ -105,13 +101,10 @@ fn judged_cell(alloc: Global, value: &Value, names: &Names) -> Result<Cell, Cell
     ensures cell { IfOk result (λ cell. cell_of (view value.now) ≡ Some cell) }
     ensures new { IfOk result (λ cell. place_among names.now cell.name ≡ None) }
 {
+    let cell = Some(names.len());
     let written = match written_from(alloc, value) {
         Ok(written) => written,
-        Err(ShapeFault::BadShape) => {
-            return Err(CellFault::BadShape {
-                cell: Some(names.len()),
-            });
-        }
+        Err(ShapeFault::BadShape) => return Err(CellFault::BadShape { cell }),
         Err(ShapeFault::NoMemory) => return Err(CellFault::NoMemory),
     };
     if let Some(fault) = fault_of(alloc, &written, names)? {

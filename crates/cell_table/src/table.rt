@@ -48,6 +48,7 @@ impl CellTable {
     pub fn find(&self, name: &[u8]) -> Option<CellId>
         ensures place { option_map (λ id. id.place) result ≡ place_among (names_of self.now) name.now }
         ensures none { IsNone result ↔ ((k : ℕ) → slice_get (names_of self.now) k ≢ Some name.now) }
+        ensures within { IfSome result (λ id. id.place < length self.now) }
         ensures found { IfSome result (λ id. slice_get (names_of self.now) id.place ≡ Some name.now) }
     {
         let place = self.names.find(name)?;

@@ -7,5 +7,5 @@ abbrev pub invariant-loop-value : goal.invariant-loop-value
 invariant-loop-value l = record {
   table : IsTable (take l.value-index (map view l.values)) l.cells;
   named : l.names ≡ names_of l.cells;
-  count : length l.cells ≡ l.value-index
+  count : length l.cells ≡ l.value-index;
 }

@@ -6,15 +6,15 @@ use Rattle.cell_table.proofs.read.judged_cell.Goals as goal
 
 pub cell_from-requires-clause-sized : goal.cell_from-requires-clause-sized
 cell_from-requires-clause-sized c =
-  let none : written_fault c.args.names.now c.in-Ok.written ≡ None = sym c.in_ok-fault.ensures ∙ c.in_default.is in
-  (sound_cell c.args.names.now c.in-Ok.written none).0
+    let none : written_fault c.args.names.now c.in-Ok.written ≡ None = sym c.in_ok-fault.ensures ∙ c.in_default.is in
+    (sound_cell c.args.names.now c.in-Ok.written none).0
 
 pub cell_from-requires-clause-within : goal.cell_from-requires-clause-within
 cell_from-requires-clause-within c =
-  let none : written_fault c.args.names.now c.in-Ok.written ≡ None = sym c.in_ok-fault.ensures ∙ c.in_default.is in
-  (sound_cell c.args.names.now c.in-Ok.written none).1
+    let none : written_fault c.args.names.now c.in-Ok.written ≡ None = sym c.in_ok-fault.ensures ∙ c.in_default.is in
+    (sound_cell c.args.names.now c.in-Ok.written none).1
 
 pub returns-clause-new : goal.returns-clause-new
 returns-clause-new c =
-  let none : written_fault c.args.names.now c.in-Ok.written ≡ None = sym c.in_ok-fault.ensures ∙ c.in_default.is in
-  rw c.in_ok-cell_from.ensures (sound_cell c.args.names.now c.in-Ok.written none).2
+    let none : written_fault c.args.names.now c.in-Ok.written ≡ None = sym c.in_ok-fault.ensures ∙ c.in_default.is in
+    rw c.in_ok-cell_from.ensures (sound_cell c.args.names.now c.in-Ok.written none).2

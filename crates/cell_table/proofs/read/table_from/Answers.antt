@@ -9,10 +9,10 @@ use Rattle.cell_table.proofs.read.table_from.Goals as goal
 
 pub cells_from-requires : goal.cells_from-requires
 cells_from-requires c =
-  let few = items_at-limit (codes "cells") (view c.args.value.now) (map view c.in-Ok.items.now) c.in-Ok.ensures in
-  rw length-map at few
+    let few = items_at-limit (codes "cells") (view c.args.value.now) (map view c.in-Ok.items.now) c.in-Ok.ensures in
+    rw length-map at few
 
 pub returns-in-Ok : goal.returns-in-Ok
 returns-in-Ok c =
-  let version : version_of (view c.args.value.now) ≡ Some 1 = search rules in
-  value_stands (view c.args.value.now) (map view c.in-Ok.items.now) c.cells_from.result version c.in-Ok.ensures c.cells_from.ensures
+    let version : version_of (view c.args.value.now) ≡ Some 1 = search rules in
+    value_stands (view c.args.value.now) (map view c.in-Ok.items.now) c.cells_from.result version c.in-Ok.ensures c.cells_from.ensures

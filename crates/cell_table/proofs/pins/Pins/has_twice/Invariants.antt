@@ -9,5 +9,5 @@ use Rattle.cell_table.proofs.pins.Pins.has_twice.Given as goal
 abbrev pub invariant-loop-name : goal.invariant-loop-name
 invariant-loop-name l = record {
   once : has_twice (map (λ name. name.now) (take l.name-index l.name-items)) ≡ false;
-  seen : (q : Bor (List ℕ)) → contains (λ x y. bytes_eq x.now y.now) l.seen q ≡ list_any (bytes_eq q.now) (map (λ name. name.now) (take l.name-index l.name-items))
+  seen : (q : Bor (List ℕ)) → contains (λ x y. bytes_eq x.now y.now) l.seen q ≡ list_any (bytes_eq q.now) (map (λ name. name.now) (take l.name-index l.name-items));
 }
