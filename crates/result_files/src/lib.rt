@@ -6,4 +6,6 @@
 
 mod one_gate_netlist;
 
-pub use one_gate_netlist::{OneGateNetlist, one_gate_netlists_are_told_apart, read_one_gate_netlist};
+pub use one_gate_netlist::{
+    OneGateNetlist, one_gate_netlists_are_told_apart, read_one_gate_netlist,
+};

@@ -1,4 +1,4 @@
-//! Reading the words of a list of tokens.
+//! The words of a list of tokens.
 
 ghost use Rattle.std.specs.Prelude.{◌↔◌, ◌<◌, ◌≡◌, IsTrue, Some, length, slice_get};
 ghost use Rattle.std.specs.List.{slice_range};

@@ -3,9 +3,10 @@ use Rattle.std.specs.Prelude.{◌≡◌, ℕ, Bool, false, Option, Some, None, L
 use Rattle.std.specs.List.{position_from}
 use Rattle.verilog_lex.specs.declared.token.TokenKind.{TokenKind}
 use Rattle.verilog_lex.specs.declared.token.TokenKind.TheVariants.{Name, Keyword}
-use Rattle.token_words.specs.Words.{Word}
+use Rattle.token_words.specs.Word.{Word}
 use Rattle.elaborator.specs.declared.one_gate_guess.Guess.{Guess}
-use Rattle.elaborator.specs.OneGateText.{text_words, HasOwnNames}
+use Rattle.elaborator.specs.OneGateText.{HasOwnNames}
+use Rattle.elaborator.specs.OneGateWords.{text_words}
 
 -- whether a token is this reserved word
 abbrev pub is_key : ℕ → TokenKind → Bool

@@ -1,6 +1,6 @@
-use Rattle.std.proofs.Common.{length, ◌≤◌, ◌≡◌, None, slice_get}
+use Rattle.std.proofs.Common.{◌≡◌, None, slice_get}
 use Rattle.std.proofs.lemmas.Option.{slice_get-map, slice_get_past}
-use Rattle.token_words.proofs.tokens.name_at.Goals as goal
+use Rattle.token_words.proofs.words.name_at.Goals as goal
 
 pub returns-then-place-len : goal.returns-then-place-len
 returns-then-place-len c = simp (slice_get-map, c.token.ensures, c.name_of.ensures)

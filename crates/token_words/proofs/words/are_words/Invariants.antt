@@ -1,6 +1,6 @@
 use Rattle.std.proofs.Common.{◌≡◌, length, take}
 use Rattle.token_words.specs.Words.{words_of}
-use Rattle.token_words.proofs.tokens.are_words.Given as goal
+use Rattle.token_words.proofs.words.are_words.Given as goal
 
 -- the tokens and words so far agree
 abbrev pub invariant-places : goal.invariant-places
