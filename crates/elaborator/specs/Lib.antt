@@ -1,0 +1,4 @@
+pub mod Answers
+pub mod Guess
+pub mod ItemOrder
+pub mod OneGateText

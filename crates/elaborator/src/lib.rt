@@ -1,0 +1,12 @@
+//! From a Verilog text to the design that it describes.
+//!
+//! So far one kind of design is read: a module with one input port, one output port, and one gate
+//! from the one to the other. `specs/OneGateText.antt` says which texts describe it.
+#![tactic(auto)]
+
+mod item_order;
+mod one_gate_guess;
+mod one_gate_text;
+mod one_gate_words;
+
+pub use one_gate_text::{ElabFault, one_gate_texts_are_told_apart, read_one_gate};
