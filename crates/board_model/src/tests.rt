@@ -1,5 +1,5 @@
 //! Boards from outside, and each call once.
-use crate::{BoardFault, read_board};
+use crate::{BoardFault, each_text_has_one_answer, read_board};
 use id_arena::{ChipId, Key, WireId};
 use std::test::Fail;
 
@@ -111,6 +111,7 @@ fn reads_a_board(rt: HostRuntime) -> Result<(), Fail> {
         assert!(rt; false, "refused");
         return Ok(());
     };
+    each_text_has_one_answer();
     assert_eq!(rt; board.slots(), 65535);
     assert_eq!(rt; board.chips(), 4);
     for (chip, room) in [(0, 6), (1, 8), (2, 0), (3, 1_099_511_627_776)] {

@@ -1,1 +1,4 @@
 pub mod OneGateNetlist
+pub mod Trees
+pub mod Faults
+pub mod OneActionSchedule

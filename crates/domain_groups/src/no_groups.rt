@@ -1,0 +1,37 @@
+//! The text that names no group.
+ghost use Rattle.std.specs.Prelude.{◌↔◌, IsTrue};
+ghost use Rattle.serde_json.specs.View.{view};
+ghost use Rattle.domain_groups.specs.NoGroups.{HasNoGroups, Answers, EachTextHasOneAnswer};
+
+use crate::fault::GroupFault;
+use json_members::{array_member, read_json};
+use serde_json::Value;
+use std::alloc::Global;
+
+/// Ok exactly where the text is an object whose member `groups` is an empty list, as
+/// `{"groups":[]}`. Other members are passed over, and of members named twice the last counts.
+pub fn read_no_groups(alloc: Global, bytes: &[u8]) -> Result<(), GroupFault>
+    ensures { Answers bytes.now result }
+{
+    let tree = read_json(alloc, bytes)?;
+    if has_no_groups(&tree) {
+        Ok(())
+    } else {
+        Err(GroupFault::NotYet)
+    }
+}
+
+/// The law that a text has one answer, want of memory aside.
+pub fn each_groups_text_has_one_answer()
+    ensures { EachTextHasOneAnswer }
+{}
+
+/// Whether the tree names no group.
+fn has_no_groups(tree: &Value) -> bool
+    ensures { IsTrue result ↔ HasNoGroups (view tree.now) }
+{
+    match array_member(tree, "groups") {
+        Some(groups) => groups.is_empty(),
+        None => false,
+    }
+}
