@@ -45,6 +45,10 @@ TextMeans view told before now blamed name what (Err stop.NoMemory) = Unit {0}
 abbrev pub Texts : Type 0
 Texts = What → List ℕ
 
+-- each text is within its limit
+abbrev pub AreWithin : Texts → Type 0
+AreWithin texts = (what : What) → length (texts what) ≤ limit what
+
 -- each text is held under its name, and is within its limit
 abbrev pub AreHeld : Held → CheckWords → Texts → Type 0
 AreHeld held n texts = (what : What) → IsHeld held (name_of n what) what (texts what)

@@ -3,7 +3,7 @@
 ghost use Rattle.std.specs.Prelude.{◌≡◌, ◌≤◌, IfOk, length};
 ghost use Rattle.emu_app.specs.What.{limit};
 ghost use Rattle.emu_app.specs.Command.{words_of};
-ghost use Rattle.emu_app.specs.Fetching.{TextMeans, TextsMean, texts_of};
+ghost use Rattle.emu_app.specs.Fetching.{AreWithin, TextMeans, TextsMean, texts_of};
 
 use crate::command::CheckNames;
 use crate::what::{TEXTS, What, what_at};
@@ -51,6 +51,7 @@ pub fn fetch_text<F: Files>(alloc: Global, files: &mut F, name: &Word, what: Wha
 /// All texts of `check`, in their order.
 pub fn fetch_texts<F: Files>(alloc: Global, files: &mut F, names: &CheckNames<'_>) -> Result<List<Text>, Stop>
     ensures count { IfOk result (λ texts. length texts ≡ 7) }
+    ensures within { IfOk result (λ texts. AreWithin (texts_of texts)) }
     ensures means { TextsMean texts_of (F.held files.old) (F.read_faults files.old) (F.read_faults files.new) (F.blamed files.new) (words_of names.now) result }
     ensures held_same { F.held files.new ≡ F.held files.old }
     ensures stores_same { F.store_faults files.new ≡ F.store_faults files.old }
