@@ -21,19 +21,19 @@ wire_words second = key WIRE ∷ net second ∷ semicolon ∷ []
 abbrev pub gate_words : OneGateNetlist → List Word
 gate_words n =
     key (if n.inverts then NOT else BUF) ∷ name (codes "g0") ∷ open_parenthesis ∷ net n.gate_drives_second ∷ comma
-        ∷ net n.gate_reads_second ∷ close_parenthesis ∷ semicolon ∷ []
+    ∷ net n.gate_reads_second ∷ close_parenthesis ∷ semicolon ∷ []
 
 -- `EHOLD r0 (q);`, where q is the net that the gate does not drive
 abbrev pub register_words : OneGateNetlist → List Word
 register_words n =
     name (codes "EHOLD") ∷ name (codes "r0") ∷ open_parenthesis ∷ net (not n.gate_drives_second) ∷ close_parenthesis
-        ∷ semicolon ∷ []
+    ∷ semicolon ∷ []
 
 -- the chip's module: its two nets, its gate, its register
 abbrev pub netlist_words : OneGateNetlist → List Word
 netlist_words n =
     (key MODULE ∷ name (codes "chip0") ∷ semicolon ∷ []) ++ wire_words false ++ wire_words true ++ gate_words n
-        ++ register_words n ++ key ENDMODULE ∷ []
+    ++ register_words n ++ key ENDMODULE ∷ []
 
 -- a text writes a netlist down where its words are the netlist's
 abbrev pub IsOneGateNetlist : List ℕ → List Token → OneGateNetlist → Type 0

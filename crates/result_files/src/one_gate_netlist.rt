@@ -22,8 +22,11 @@ pub struct OneGateNetlist {
 
 /// The number of words of such a netlist, and the places of those that differ between two.
 const WORDS: usize = 24;
+
 const GATE: u32 = 9;
+
 const GATE_OUTPUT: u32 = 12;
+
 const GATE_INPUT: u32 = 14;
 
 /// The word for one of the two nets.
@@ -95,5 +98,4 @@ pub fn read_one_gate_netlist(source: &[u8], tokens: &Tokens) -> Option<OneGateNe
 /// No text writes down two netlists.
 pub fn one_gate_netlists_are_told_apart()
     ensures { TextsTellNetlistsApart }
-{
-}
+{}
