@@ -5,15 +5,16 @@ use Rattle.std.specs.Bool.{Decides}
 use Rattle.std.specs.Str.{bytes_eq}
 use Rattle.verilog_lex.specs.declared.token.Token.{Token}
 use Rattle.verilog_lex.specs.declared.token.TokenKind.{TokenKind}
-use Rattle.token_words.specs.Words.{Word, kinds_of, name_at, words_of}
+use Rattle.token_words.specs.Word.{Word}
+use Rattle.token_words.specs.Words.{kinds_of, name_at, words_of}
 use Rattle.token_words.specs.declared.keyword.TheConstants.{INPUT, NOT, OUTPUT}
-use Rattle.design_core.specs.declared.one_gate.OneGate.{OneGate}
 use Rattle.elaborator.specs.declared.item_order.ItemOrder.{ItemOrder}
 use Rattle.elaborator.specs.declared.item_order.ItemOrder.TheVariants.{InputOutputGate, InputGateOutput, OutputInputGate, OutputGateInput, GateInputOutput, GateOutputInput}
 use Rattle.elaborator.specs.declared.one_gate_guess.Guess.{Guess}
-use Rattle.elaborator.specs.Guess.{place_behind, optional_name, IsOnlyGuess}
+use Rattle.elaborator.specs.OneGateGuess.{place_behind, optional_name}
 use Rattle.elaborator.specs.ItemOrder.{order_of}
-use Rattle.elaborator.specs.OneGateText.{gate_word, text_words, HasOwnNames}
+use Rattle.elaborator.specs.OneGateText.{HasOwnNames}
+use Rattle.elaborator.specs.OneGateWords.{gate_word, text_words}
 
 abbrev pub kinds : List Word → List TokenKind
 kinds words = map (λ w. w.kind) words
@@ -36,9 +37,9 @@ pub record Stands (words : List Word) (d : Guess) : Type 0 where
 
 abbrev pub design : ItemOrder → Bool → Option (List ℕ) → List ℕ → List ℕ → List ℕ → Bool → Guess
 design order inverts gate top input output first =
-    record
-    { order = order
-    ; gate = record { top = top; input = input; output = output; input_first = first; inverts = inverts; gate = gate }
+    record {
+      order = order;
+      gate = record { top = top; input = input; output = output; input_first = first; inverts = inverts; gate = gate };
     }
 
 stands_at : (order : ItemOrder) (inverts : Bool) (gate : Option (List ℕ)) (top input output : List ℕ) (first : Bool) → let d : Guess = design order inverts gate top input output first in Stands (text_words d.order d.gate) d

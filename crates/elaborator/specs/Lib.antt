@@ -1,4 +1,4 @@
-pub mod Answers
-pub mod Guess
 pub mod ItemOrder
+pub mod OneGateGuess
 pub mod OneGateText
+pub mod OneGateWords

@@ -2,7 +2,7 @@
 
 ghost use Rattle.std.specs.Prelude.{◌≡◌, IfOk};
 ghost use Rattle.token_words.specs.Words.{kinds_of, words_of};
-ghost use Rattle.elaborator.specs.Guess.{IsOnlyGuess, is_key, optional_name, place_behind};
+ghost use Rattle.elaborator.specs.OneGateGuess.{IsOnlyGuess, is_key, optional_name, place_behind};
 
 use crate::item_order::{ItemOrder, order_of};
 use crate::one_gate_words::gate_word;
@@ -22,6 +22,7 @@ pub(crate) struct Guess {
 
 /// The places of two words of the header, which are the same in all texts of one gate.
 const TOP: u32 = 1;
+
 const FIRST_PORT: u32 = 3;
 
 /// Whether a token is this reserved word.
@@ -47,7 +48,12 @@ fn place_behind(tokens: &Tokens, word: u32) -> Option<u32>
 }
 
 /// The name at a place, if one is there.
-fn optional_name(alloc: Global, source: &[u8], tokens: &Tokens, place: u32) -> Result<Option<Text>, NoMemory>
+fn optional_name(
+    alloc: Global,
+    source: &[u8],
+    tokens: &Tokens,
+    place: u32,
+) -> Result<Option<Text>, NoMemory>
     ensures { IfOk result (λ name. name ≡ optional_name (words_of source.now tokens.now) place) }
 {
     if place < tokens.len() && tokens.token(place).kind == TokenKind::Name {
@@ -61,7 +67,11 @@ fn optional_name(alloc: Global, source: &[u8], tokens: &Tokens, place: u32) -> R
 ///
 /// The reserved words that begin the items tell where the names stand. Whether all words are those
 /// of the guessed design is not looked at.
-pub(crate) fn guessed_design(alloc: Global, source: &[u8], tokens: &Tokens) -> Result<Option<Guess>, NoMemory>
+pub(crate) fn guessed_design(
+    alloc: Global,
+    source: &[u8],
+    tokens: &Tokens,
+) -> Result<Option<Guess>, NoMemory>
     ensures { IfOk result (IsOnlyGuess (words_of source.now tokens.now)) }
 {
     let inverts = place_behind(tokens, NOT).is_some();

@@ -2,8 +2,7 @@
 
 ghost use Rattle.std.specs.Prelude.{◌↔◌, ◌≡◌, IfOk, IsTrue};
 ghost use Rattle.token_words.specs.Words.{words_of};
-ghost use Rattle.elaborator.specs.Answers.{Answers};
-ghost use Rattle.elaborator.specs.OneGateText.{Describes, HasOwnNames, TextsTellDesignsApart};
+ghost use Rattle.elaborator.specs.OneGateText.{Answers, Describes, HasOwnNames, TextsTellDesignsApart};
 
 use crate::one_gate_guess::{Guess, guessed_design};
 use crate::one_gate_words::text_words;
@@ -48,7 +47,13 @@ fn has_own_names(gate: &OneGate) -> bool
 }
 
 /// Whether the text describes the guessed design, with a top of this name.
-fn is_described(alloc: Global, source: &[u8], tokens: &Tokens, top: &[u8], guess: &Guess) -> Result<bool, NoMemory>
+fn is_described(
+    alloc: Global,
+    source: &[u8],
+    tokens: &Tokens,
+    top: &[u8],
+    guess: &Guess,
+) -> Result<bool, NoMemory>
     ensures { IfOk result (λ yes. IsTrue yes ↔ Describes (words_of source.now tokens.now) top.now guess.now.order guess.now.gate) }
 {
     if guess.gate.top.bytes() != top || !has_own_names(&guess.gate) {
@@ -61,7 +66,12 @@ fn is_described(alloc: Global, source: &[u8], tokens: &Tokens, top: &[u8], guess
 /// The design with one gate, and a top of this name, that the text describes.
 ///
 /// `NotYet` comes exactly where the text describes no such design. `tokens` are those of `source`.
-pub fn read_one_gate(alloc: Global, source: &[u8], tokens: &Tokens, top: &[u8]) -> Result<OneGate, ElabFault>
+pub fn read_one_gate(
+    alloc: Global,
+    source: &[u8],
+    tokens: &Tokens,
+    top: &[u8],
+) -> Result<OneGate, ElabFault>
     ensures { Answers source.now tokens.now top.now result }
 {
     let Some(guess) = guessed_design(alloc, source, tokens)? else {
@@ -77,5 +87,4 @@ pub fn read_one_gate(alloc: Global, source: &[u8], tokens: &Tokens, top: &[u8]) 
 /// No text describes two designs.
 pub fn one_gate_texts_are_told_apart()
     ensures { TextsTellDesignsApart }
-{
-}
+{}

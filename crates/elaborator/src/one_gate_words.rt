@@ -1,7 +1,7 @@
 //! The words of a text with one gate.
 
 ghost use Rattle.std.specs.Prelude.{◌++◌, ◌≡◌, IfOk};
-ghost use Rattle.elaborator.specs.OneGateText.{gate_word, gate_words, header_words, port_words, text_words};
+ghost use Rattle.elaborator.specs.OneGateWords.{gate_word, gate_words, header_words, port_words, text_words};
 
 use crate::item_order::ItemOrder;
 use design_core::OneGate;
@@ -27,7 +27,7 @@ fn header_words(alloc: Global, gate: &OneGate) -> Result<Vec<Word<'_>>, NoMemory
         Word::mark(b','),
         Word::name(second),
         Word::mark(b')'),
-        Word::mark(b';')
+        Word::mark(b';'),
     ]?)
 }
 
@@ -74,7 +74,11 @@ fn append<'a>(words: &mut Vec<Word<'a>>, more: Vec<Word<'a>>) -> Result<(), NoMe
 }
 
 /// The words of the whole text, with its items in this order.
-pub(crate) fn text_words(alloc: Global, order: ItemOrder, gate: &OneGate) -> Result<Vec<Word<'_>>, NoMemory>
+pub(crate) fn text_words(
+    alloc: Global,
+    order: ItemOrder,
+    gate: &OneGate,
+) -> Result<Vec<Word<'_>>, NoMemory>
     ensures { IfOk result (λ words. words.items ≡ text_words order gate.now) }
 {
     let input = port_words(alloc, INPUT, gate.input.bytes())?;

@@ -1,5 +1,6 @@
 -- Texts in memory, whose calls fail where told.
-use Rattle.std.specs.Prelude.{◌≡◌, ◌/◌, ℕ, Bool, true, false, List, [], length, take, Option, None, Some, Result, Ok, Err, if◌then◌else◌, nat_lt}
+use Rattle.std.specs.Prelude.{◌≡◌, ◌/◌, ℕ, Bool, true, false, List, [], length, take, if◌then◌else◌, nat_lt}
+use Rattle.std.specs.Prelude.{Option, None, Some, Result, Ok, Err}
 use Rattle.std.specs.Map.{lookup}
 use Rattle.std.specs.BTreeMap.{is_at}
 use Rattle.std.specs.Cmp.Lexicographic.{slice_cmp}
@@ -39,7 +40,10 @@ counted m = record m { next = next_call m.next }
 
 -- one fetch more failed, and its name is blamed unless the count stands still
 abbrev pub fetch_failed : MemoryState → List ℕ → MemoryState
-fetch_failed m name = record (counted m) { read_faults = risen m.read_faults; blamed = (if nat_lt m.read_faults max_count then Some name else m.blamed) }
+fetch_failed m name = record (counted m) {
+  read_faults = risen m.read_faults;
+  blamed = (if nat_lt m.read_faults max_count then Some name else m.blamed);
+}
 
 -- one store more failed
 abbrev pub store_failed : MemoryState → MemoryState

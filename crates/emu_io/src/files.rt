@@ -49,15 +49,18 @@ pub trait Files {
     /// The bytes of the text with this name, where they are at most `limit`.
     fn fetch(&mut self, alloc: Global, name: &Word, limit: u64) -> Result<Vec<u8>, FetchFault>
         ensures bounded { IfOk result (λ bytes. length bytes.items ≤ limit) }
-        ensures means { FetchMeans (λ bytes. bytes.items) (held self.old) (read_faults self.old) (read_faults self.new) name.now limit result }
-        ensures blames { Blames (read_faults self.old) (read_faults self.new) name.now (blamed self.old) (blamed self.new) }
+        ensures means { FetchMeans (λ bytes. bytes.items) (held self.old)
+            (read_faults self.old) (read_faults self.new) name.now limit result }
+        ensures blames { Blames (read_faults self.old) (read_faults self.new) name.now
+            (blamed self.old) (blamed self.new) }
 
         ensures held_same { held self.new ≡ held self.old }
         ensures stores_same { store_faults self.new ≡ store_faults self.old };
 
     /// Puts the bytes under the name, in place of what it had.
     fn store(&mut self, name: &Word, bytes: &[u8]) -> Result<(), StoreFault>
-        ensures means { StoreMeans (held self.old) (held self.new) (store_faults self.old) (store_faults self.new) name.now bytes.now result }
+        ensures means { StoreMeans (held self.old) (held self.new)
+            (store_faults self.old) (store_faults self.new) name.now bytes.now result }
         ensures later { store_faults self.old ≤ store_faults self.new }
 
         ensures reads_same { read_faults self.new ≡ read_faults self.old }

@@ -1,6 +1,7 @@
 //! A growing list that contracts see as the plain list of its items.
 
-ghost use Rattle.std.specs.Prelude.{◌++◌, ◌<◌, ◌↔◌, ◌≡◌, ◌∷◌, [], IsTrue, MatchOption, OnErr, OnOk, length, slice_get, slice_set};
+ghost use Rattle.std.specs.Prelude.{◌++◌, ◌<◌, ◌↔◌, ◌≡◌, ◌∷◌, [], length, slice_get, slice_set};
+ghost use Rattle.std.specs.Prelude.{IsTrue, MatchOption, OnErr, OnOk};
 
 use crate::NoMemory;
 use std::alloc::Global;
@@ -85,7 +86,8 @@ impl<T: Drop> List<T> {
 
     /// Takes the last item away; None exactly where there is none.
     pub fn pop(&mut self) -> Option<T>
-        ensures { MatchOption result ((self.old ≡ []) × (self.new ≡ [])) (λ item. self.old ≡ self.new ++ item ∷ []) }
+        ensures { MatchOption result ((self.old ≡ []) × (self.new ≡ []))
+            (λ item. self.old ≡ self.new ++ item ∷ []) }
     {
         self.items.pop()
     }

@@ -1,9 +1,10 @@
 //! Texts in memory, for tests: they tell all that they hold, and the calls that fail are chosen.
 
-ghost use Rattle.std.specs.Prelude.{◌≡◌, ◌≤◌, ◌↔◌, IfOk, IsTrue, OnErr, OnOk, Some, length, option_map, true};
+ghost use Rattle.std.specs.Prelude.{◌≡◌, ◌≤◌, IfOk, OnErr, OnOk, Some, length};
 ghost use Rattle.std.specs.Option.{option_copied};
-ghost use Rattle.emu_io.specs.Files.{Blames, FetchMeans, Sets, StoreMeans};
-ghost use Rattle.emu_io.specs.MemFiles.{CopyIs, FetchIs, StoreIs, Stored, counted, fetch_failed, fresh, held_in, is_failing, store_failed, within};
+ghost use Rattle.emu_io.specs.Files.{Blames, FetchMeans, StoreMeans};
+ghost use Rattle.emu_io.specs.MemFiles.{CopyIs, FetchIs, StoreIs, Stored, counted, fetch_failed};
+ghost use Rattle.emu_io.specs.MemFiles.{fresh, held_in, is_failing, store_failed, within};
 
 use crate::calls::Calls;
 use crate::{FetchFault, Files, NoMemory, StoreFault, Text, Word};
@@ -29,7 +30,14 @@ impl Model for MemFiles {
 
     ghost Value = { MemoryState };
 
-    ghost view = { λ m. record { entries = m.entries.entries; failing = m.calls.failing; next = m.calls.next; read_faults = m.read_faults; store_faults = m.store_faults; blamed = m.blamed } };
+    ghost view = { λ m. record {
+      entries = m.entries.entries;
+      failing = m.calls.failing;
+      next = m.calls.next;
+      read_faults = m.read_faults;
+      store_faults = m.store_faults;
+      blamed = m.blamed;
+    } };
 }
 
 impl MemFiles {
@@ -131,8 +139,10 @@ impl Files for MemFiles {
         ensures exact { FetchIs (λ bytes. bytes.items) self.old name.now limit self.new result }
 
         ensures bounded { IfOk result (λ bytes. length bytes.items ≤ limit) }
-        ensures means { FetchMeans (λ bytes. bytes.items) (Some (held_in self.old.entries)) self.old.read_faults self.new.read_faults name.now limit result }
-        ensures blames { Blames self.old.read_faults self.new.read_faults name.now self.old.blamed self.new.blamed }
+        ensures means { FetchMeans (λ bytes. bytes.items) (Some (held_in self.old.entries))
+            self.old.read_faults self.new.read_faults name.now limit result }
+        ensures blames { Blames self.old.read_faults self.new.read_faults name.now
+            self.old.blamed self.new.blamed }
 
         ensures held_same { Some (held_in self.new.entries) ≡ Some (held_in self.old.entries) }
         ensures stores_same { self.new.store_faults ≡ self.old.store_faults }
@@ -155,7 +165,8 @@ impl Files for MemFiles {
     fn store(&mut self, name: &Word, bytes: &[u8]) -> Result<(), StoreFault>
         ensures exact { StoreIs self.old name.now bytes.now self.new result }
 
-        ensures means { StoreMeans (Some (held_in self.old.entries)) (Some (held_in self.new.entries)) self.old.store_faults self.new.store_faults name.now bytes.now result }
+        ensures means { StoreMeans (Some (held_in self.old.entries)) (Some (held_in self.new.entries))
+            self.old.store_faults self.new.store_faults name.now bytes.now result }
         ensures later { self.old.store_faults ≤ self.new.store_faults }
 
         ensures reads_same { self.new.read_faults ≡ self.old.read_faults }

@@ -25,7 +25,12 @@ impl Model for MemSink {
 
     ghost Value = { SinkState };
 
-    ghost view = { λ s. record { written = s.bytes.items; failing = s.calls.failing; next = s.calls.next; faults = s.faults } };
+    ghost view = { λ s. record {
+      written = s.bytes.items;
+      failing = s.calls.failing;
+      next = s.calls.next;
+      faults = s.faults;
+    } };
 }
 
 impl MemSink {
@@ -86,7 +91,8 @@ impl Sink for MemSink {
     fn put(&mut self, bytes: &[u8]) -> Result<(), StoreFault>
         ensures exact { PutIs self.old bytes.now self.new result }
 
-        ensures means { PutMeans (Some self.old.written) (Some self.new.written) self.old.faults self.new.faults bytes.now result }
+        ensures means { PutMeans (Some self.old.written) (Some self.new.written)
+            self.old.faults self.new.faults bytes.now result }
         ensures later { self.old.faults ≤ self.new.faults }
     {
         if self.is_failing() {

@@ -19,6 +19,7 @@ pub trait Sink {
 
     /// Appends all bytes.
     fn put(&mut self, bytes: &[u8]) -> Result<(), StoreFault>
-        ensures means { PutMeans (written self.old) (written self.new) (faults self.old) (faults self.new) bytes.now result }
+        ensures means { PutMeans (written self.old) (written self.new)
+            (faults self.old) (faults self.new) bytes.now result }
         ensures later { faults self.old ≤ faults self.new };
 }

@@ -1,5 +1,5 @@
 -- An item is taken out of its list.
-use Rattle.std.proofs.Common.{◌≡◌, ℕ, ◌<◌, ◌≤◌, ◌^◌, Bool, true, false, eqb, if◌then◌else◌, ◌⊎◌, ◌||◌, List, [], ◌∷◌, Option, Some, None, map, length, get_or, set, refl, sym, ap, ◌∙◌, subst, inl, inr, arith}
+use Rattle.std.proofs.Common.{◌≡◌, ℕ, ◌<◌, ◌^◌, Bool, true, false, eqb, if◌then◌else◌, List, [], ◌∷◌, Option, Some, None, map, length, set, refl, sym, ap, ◌∙◌, subst, inl, inr}
 use Rattle.std.proofs.Math.ListN.{get_or-map}
 use Rattle.std.proofs.lemmas.Bool.{cases_eq, cases_lt, eqb-true, eqb-false, eq-eqb, or_right}
 use Rattle.std.proofs.lemmas.List.{get_or-set_same, get_or-set_other, get_or_past, length-set, length-map}
@@ -11,7 +11,7 @@ use Rattle.link_rows.proofs.Homes.{has-home, home-without_same, home-without_oth
 use Rattle.link_rows.proofs.Chains.{prev-next, next-prev, first-prev}
 use Rattle.link_rows.proofs.Fields.{length-with_prev, length-with_next, link_of-with_prev_same, link_of-with_prev_other, link_of-with_next_same, link_of-with_next_other, field-with_prev, field-with_next}
 use Rattle.link_rows.proofs.Fronts.{first-owner}
-use Rattle.link_rows.proofs.Told.{has-owner, has-head, owner-within}
+use Rattle.link_rows.proofs.Told.{has-head, owner-within}
 
 -- a place that is led past an item to what lies beyond it
 abbrev skip : ℕ → Option ℕ → Option ℕ → Option ℕ
@@ -57,13 +57,13 @@ chain_skips f g head i prev at (x ∷ xs) skips chain =
         let own_prev : (f i).prev ≡ prev = ap (λ n. (f n).prev) same ∙ chain.1 in
         let back : skip i (f i).prev (Some x) ≡ skip i (f i).prev prev = skip-here i x (f i).prev same ∙ sym (skip-self i (f i).prev) ∙ ap (skip i (f i).prev) own_prev in
         let forth : skip i (f i).next (f x).next ≡ skip i (f i).next at =
-            ap (λ n. skip i (f i).next (f n).next) (sym same) ∙ skip-self i (f i).next ∙ sym (skip-here i x (f i).next same) ∙ ap (skip i (f i).next) (sym chain.0) in
+        ap (λ n. skip i (f i).next (f n).next) (sym same) ∙ skip-self i (f i).next ∙ sym (skip-here i x (f i).next same) ∙ ap (skip i (f i).next) (sym chain.0) in
         subst (λ o. IsChain g head o (skip i (f i).next at) (without i xs)) back (subst (λ o. IsChain g head (skip i (f i).prev (Some x)) o (without i xs)) forth rest)
     go false e rest =
         let s = skips x (has-cons_same x x xs refl) (λ same. eqb-false i x e (sym same)) in
         let stays = λ (o : Option ℕ). (let same : skip i o (Some x) ≡ Some x = ap (λ b. if b then o else Some x) e in same) in
         let tail : IsChain g head (Some x) (g x).next (without i xs) =
-            subst (λ o. IsChain g head o (g x).next (without i xs)) (stays (f i).prev) (subst (λ o. IsChain g head (skip i (f i).prev (Some x)) o (without i xs)) (sym s.next) rest) in
+        subst (λ o. IsChain g head o (g x).next (without i xs)) (stays (f i).prev) (subst (λ o. IsChain g head (skip i (f i).prev (Some x)) o (without i xs)) (sym s.next) rest) in
         (ap (skip i (f i).next) chain.0 ∙ stays (f i).next, s.prev ∙ ap (skip i (f i).prev) chain.1, s.owner ∙ chain.2, tail)
 
 -- the first item of a chain has what stands before the chain before it
@@ -78,14 +78,16 @@ first-back f head k prev at (x ∷ xs) chain is =
 prev-within : (links : List Link) (k i : ℕ) → (link_of links k).prev ≡ Some i → k < length links
 prev-within links k i is =
     elim (cases_lt k (length links)) [
-      inl within ↦ within
-    | inr past ↦ absurd (let no : None ≡ Some i = sym (ap (λ l. l.prev) (get_or_past links k loose past)) ∙ is in cc) ]
+      | inl within ↦ within
+      | inr past ↦ absurd (let no : None ≡ Some i = sym (ap (λ l. l.prev) (get_or_past links k loose past)) ∙ is in cc)
+    ]
 
 next-within : (links : List Link) (k i : ℕ) → (link_of links k).next ≡ Some i → k < length links
 next-within links k i is =
     elim (cases_lt k (length links)) [
-      inl within ↦ within
-    | inr past ↦ absurd (let no : None ≡ Some i = sym (ap (λ l. l.next) (get_or_past links k loose past)) ∙ is in cc) ]
+      | inl within ↦ within
+      | inr past ↦ absurd (let no : None ≡ Some i = sym (ap (λ l. l.next) (get_or_past links k loose past)) ∙ is in cc)
+    ]
 
 module _ (firsts : List (Option ℕ)) (links : List Link) (lists : List (List ℕ)) (head item : ℕ) (linked : IsLinked firsts links lists) (owned : (link_of links item).owner ≡ Some head) where
   -- the links before and after
@@ -120,8 +122,9 @@ module _ (firsts : List (Option ℕ)) (links : List Link) (lists : List (List �
   prev_knows : (k : ℕ) → prev ≡ Some k → (before k).next ≡ Some item
   prev_knows k is =
       elim (next-prev before head k item None (first_at firsts head) (row lists head) own_chain here is) [
-        inl found ↦ found
-      | inr front ↦ absurd (let no : None ≡ Some k = front.0 in cc) ]
+        | inl found ↦ found
+        | inr front ↦ absurd (let no : None ≡ Some k = front.0 in cc)
+      ]
 
   pub next_in_items : IsWithin next (length links)
   next_in_items = go next refl
@@ -165,19 +168,19 @@ module _ (firsts : List (Option ℕ)) (links : List Link) (lists : List (List �
     behind-prev_same : next ≡ Some k → (behind k).prev ≡ prev
     behind-prev_same is =
         ap (λ l. l.prev) behind-is
-            ∙ ap (λ l. l.prev) (link_of-with_prev_same half k next prev is (subst (λ n. k < n) (sym half-length) (prev-within links k item (next_knows k is))))
+        ∙ ap (λ l. l.prev) (link_of-with_prev_same half k next prev is (subst (λ n. k < n) (sym half-length) (prev-within links k item (next_knows k is))))
 
     behind-prev_other : (next ≡ Some k → ⊥) → (behind k).prev ≡ (before k).prev
     behind-prev_other not_next =
         ap (λ l. l.prev) behind-is
-            ∙ ap (λ l. l.prev) (link_of-with_prev_other half k next prev not_next)
-            ∙ field-with_next links k (λ l. l.prev) (λ l n. refl) prev next prev_in_items
+        ∙ ap (λ l. l.prev) (link_of-with_prev_other half k next prev not_next)
+        ∙ field-with_next links k (λ l. l.prev) (λ l n. refl) prev next prev_in_items
 
     behind-owner : (behind k).owner ≡ (before k).owner
     behind-owner =
         ap (λ l. l.owner) behind-is
-            ∙ field-with_prev half k (λ l. l.owner) (λ l p. refl) next prev next_in_half
-            ∙ field-with_next links k (λ l. l.owner) (λ l n. refl) prev next prev_in_items
+        ∙ field-with_prev half k (λ l. l.owner) (λ l p. refl) next prev next_in_half
+        ∙ field-with_next links k (λ l. l.owner) (λ l n. refl) prev next prev_in_items
 
     -- each other item is led past the item
     skips_at : (h : ℕ) → has k (row lists h) ≡ true → Skips before behind item k
@@ -190,10 +193,11 @@ module _ (firsts : List (Option ℕ)) (links : List Link) (lists : List (List �
               (λ differs. behind-next_other (λ is. differs (prev_knows k is)));
           prev = skip-is item prev (before k).prev (behind k).prev
               (λ is. elim (next-prev before h item k None (first_at firsts h) (row lists h) chain among is) [
-                inl found ↦ behind-prev_same found
-              | inr front ↦ absurd (let no : None ≡ Some item = front.0 in cc) ])
+                | inl found ↦ behind-prev_same found
+                | inr front ↦ absurd (let no : None ≡ Some item = front.0 in cc)
+              ])
               (λ differs. behind-prev_other (λ is. differs (next_knows k is)));
-          owner = behind-owner
+          owner = behind-owner;
         }
 
   -- the item is the first of a list only of its own, and where nothing is before it
@@ -212,16 +216,17 @@ module _ (firsts : List (Option ℕ)) (links : List Link) (lists : List (List �
       go None none =
           let front = (first-prev before head item None (first_at firsts head) (row lists head) own_chain here none).0 in
           elim (cases_eq h head) [
-            inl same ↦
-              subst (λ n. first_at (set firsts head next) n ≡ skip item next (first_at firsts n)) (sym same)
+            | inl same ↦
+                subst (λ n. first_at (set firsts head next) n ≡ skip item next (first_at firsts n)) (sym same)
                 (get_or-set_same firsts head next None head-within ∙ sym (ap (skip item next) front ∙ skip-here item item next refl))
-          | inr other ↦
-              get_or-set_other firsts head h next None other
-                ∙ skip-is item next (first_at firsts h) (first_at firsts h) (λ is. absurd (other (first_only h within is).0)) (λ differs. refl) ]
+            | inr other ↦
+                get_or-set_other firsts head h next None other
+                ∙ skip-is item next (first_at firsts h) (first_at firsts h) (λ is. absurd (other (first_only h within is).0)) (λ differs. refl)
+          ]
       go (Some b) some =
           skip-is item next (first_at firsts h) (first_at firsts h)
-            (λ is. absurd (let no : None ≡ Some b = sym (first_only h within is).1 ∙ some in cc))
-            (λ differs. refl)
+          (λ is. absurd (let no : None ≡ Some b = sym (first_only h within is).1 ∙ some in cc))
+          (λ differs. refl)
 
   pub length-cut_firsts : length (cut_firsts firsts prev next head) ≡ length firsts
   length-cut_firsts = go prev
@@ -244,8 +249,9 @@ module _ (firsts : List (Option ℕ)) (links : List Link) (lists : List (List �
   home_at : (k : ℕ) → (behind k).owner ≡ home k (map (without item) lists)
   home_at k =
       elim (cases_eq k item) [
-        inl same ↦ subst (λ n. (behind n).owner ≡ home n (map (without item) lists)) (sym same) (ap (λ l. l.owner) behind-item ∙ sym (home-without_same item lists))
-      | inr other ↦ behind-owner k other ∙ linked.homes k ∙ sym (home-without_other k item lists other) ]
+        | inl same ↦ subst (λ n. (behind n).owner ≡ home n (map (without item) lists)) (sym same) (ap (λ l. l.owner) behind-item ∙ sym (home-without_same item lists))
+        | inr other ↦ behind-owner k other ∙ linked.homes k ∙ sym (home-without_other k item lists other)
+      ]
 
   -- each list is without the item
   pub cut_linked : IsLinked (cut_firsts firsts prev next head) (cut_links links item) (map (without item) lists)
@@ -255,5 +261,5 @@ module _ (firsts : List (Option ℕ)) (links : List Link) (lists : List (List �
     apart = λ h within. subst IsApart (sym (row_at h)) (IsApart-without item (row lists h) (linked.apart h (subst (λ n. h < n) length-cut_firsts within)));
     homes = home_at;
     few_heads = subst (λ n. n < 2 ^ 32) (sym length-cut_firsts) linked.few_heads;
-    few_items = subst (λ n. n < 2 ^ 32) (sym length-cut_links) linked.few_items
+    few_items = subst (λ n. n < 2 ^ 32) (sym length-cut_links) linked.few_items;
   }

@@ -1,5 +1,5 @@
 -- The fields of the links after what is before or behind one item is set.
-use Rattle.std.proofs.Common.{◌≡◌, ℕ, ◌<◌, List, Option, Some, None, length, get_or, set, refl, sym, ap, ◌∙◌, subst, inl, inr}
+use Rattle.std.proofs.Common.{◌≡◌, ℕ, ◌<◌, List, Option, Some, None, length, refl, sym, ap, ◌∙◌, subst, inl, inr}
 use Rattle.std.proofs.lemmas.Bool.{cases_eq}
 use Rattle.std.proofs.lemmas.List.{get_or-set_same, get_or-set_other, length-set}
 use Rattle.link_rows.specs.declared.arrays.Link.{Link}
@@ -36,13 +36,15 @@ module _ (links : List Link) (k : ℕ) where
   field-with_prev field leaves None prev within = refl
   field-with_prev field leaves (Some i) prev within =
       elim (cases_eq i k) [
-        inl same ↦ ap field (link_of-with_prev_same (Some i) prev (ap Some same) (subst (λ n. n < length links) same within)) ∙ leaves (link_of links k) prev
-      | inr other ↦ ap field (link_of-with_prev_other (Some i) prev (λ e. other (let both : Some i ≡ Some k = e in cc))) ]
+        | inl same ↦ ap field (link_of-with_prev_same (Some i) prev (ap Some same) (subst (λ n. n < length links) same within)) ∙ leaves (link_of links k) prev
+        | inr other ↦ ap field (link_of-with_prev_other (Some i) prev (λ e. other (let both : Some i ≡ Some k = e in cc)))
+      ]
 
   pub field-with_next : {X : Type 0} (field : Link → X) → ((l : Link) (n : Option ℕ) → field (record l { next = n }) ≡ field l) → (item next : Option ℕ) → IsWithin item (length links)
       → field (link_of (with_next links item next) k) ≡ field (link_of links k)
   field-with_next field leaves None next within = refl
   field-with_next field leaves (Some i) next within =
       elim (cases_eq i k) [
-        inl same ↦ ap field (link_of-with_next_same (Some i) next (ap Some same) (subst (λ n. n < length links) same within)) ∙ leaves (link_of links k) next
-      | inr other ↦ ap field (link_of-with_next_other (Some i) next (λ e. other (let both : Some i ≡ Some k = e in cc))) ]
+        | inl same ↦ ap field (link_of-with_next_same (Some i) next (ap Some same) (subst (λ n. n < length links) same within)) ∙ leaves (link_of links k) next
+        | inr other ↦ ap field (link_of-with_next_other (Some i) next (λ e. other (let both : Some i ≡ Some k = e in cc)))
+      ]

@@ -1,7 +1,7 @@
 -- One list of items: what it has, what follows and precedes an item, and an item taken out.
-use Rattle.std.proofs.Common.{◌≡◌, ℕ, ◌+◌, ◌<◌, Bool, true, false, ◌||◌, if◌then◌else◌, eqb, ◌⊎◌, List, [], ◌∷◌, ◌++◌, Option, Some, None, length, refl, sym, ap, ◌∙◌, subst, inl, inr, arith}
+use Rattle.std.proofs.Common.{◌≡◌, ℕ, Bool, true, false, ◌||◌, if◌then◌else◌, eqb, ◌⊎◌, List, [], ◌∷◌, refl, sym, ap, ◌∙◌, inl, inr}
 use Rattle.std.proofs.lemmas.Bool.{eqb-true, eqb-false, eq-eqb, ne_eqb, or_parts, true≢false}
-use Rattle.link_rows.specs.Rows.{has, first_of, after, without, IsApart}
+use Rattle.link_rows.specs.Rows.{has, without, IsApart}
 
 -- another item may be left off
 pub has-cons_other : (k x : ℕ) (xs : List ℕ) → (k ≡ x → ⊥) → has k (x ∷ xs) ≡ has k xs
@@ -46,7 +46,7 @@ module _ (i : ℕ) where
   without-absent (x ∷ xs) absent =
       let parts = or_parts (eqb i x) (has i xs) absent in
       ap (λ b. if b then without i xs else x ∷ without i xs) parts.0
-          ∙ ap {B = List ℕ} (λ ys. x ∷ ys) (without-absent xs parts.1)
+      ∙ ap {B = List ℕ} (λ ys. x ∷ ys) (without-absent xs parts.1)
 
   pub IsApart-without : (xs : List ℕ) → IsApart xs → IsApart (without i xs)
   IsApart-without [] apart = tt

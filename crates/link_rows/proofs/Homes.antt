@@ -1,9 +1,8 @@
 -- The head of an item, after a change of the lists.
-use Rattle.std.proofs.Common.{◌≡◌, ℕ, zero, suc, ◌+◌, ◌<◌, Bool, true, false, if◌then◌else◌, eqb, List, [], ◌∷◌, ◌++◌, map, Option, Some, None, replicate, length, get_or, set, refl, sym, ap, ◌∙◌, subst, arith, add-one}
+use Rattle.std.proofs.Common.{◌≡◌, ℕ, zero, suc, ◌+◌, ◌<◌, Bool, true, false, if◌then◌else◌, List, [], ◌∷◌, map, Option, Some, None, replicate, length, set, refl, sym, ap, ◌∙◌, subst, arith}
 use Rattle.std.specs.Option.{option_map}
-use Rattle.std.proofs.lemmas.Bool.{true≢false, false_from_ne_true}
 use Rattle.link_rows.specs.Rows.{row, has, home, without, with_more}
-use Rattle.link_rows.proofs.HeadLists.{has-without_same, has-without_other, without-absent, has-cons_same}
+use Rattle.link_rows.proofs.HeadLists.{has-without_same, has-without_other, without-absent}
 
 -- what is counted one further is some number and one
 lifted : (o : Option ℕ) (n : ℕ) → option_map (λ m. m + 1) o ≡ Some n → (m : ℕ) × (o ≡ Some m) × (n ≡ suc m)
@@ -54,15 +53,15 @@ module _ (k : ℕ) where
       let rest_none : option_map (λ m. m + 1) (home k lists) ≡ None = sym (ap (λ b. if b then Some 0 else option_map (λ m. m + 1) (home k lists)) absent) ∙ none in
       let rest = home-put lists n ys (lifted_None (home k lists) rest_none) (omega arith) here in
       ap (λ b. if b then Some 0 else option_map (λ m. m + 1) (home k (set lists n ys))) absent
-          ∙ ap (option_map (λ m. m + 1)) rest
-          ∙ ap Some (omega arith)
+      ∙ ap (option_map (λ m. m + 1)) rest
+      ∙ ap Some (omega arith)
 
   -- the item is taken out
   pub home-without_same : (lists : List (List ℕ)) → home k (map (without k) lists) ≡ None
   home-without_same [] = refl
   home-without_same (xs ∷ lists) =
       ap (λ b. if b then Some 0 else option_map (λ m. m + 1) (home k (map (without k) lists))) (has-without_same k xs)
-          ∙ ap (option_map (λ m. m + 1)) (home-without_same lists)
+      ∙ ap (option_map (λ m. m + 1)) (home-without_same lists)
 
   -- another item is taken out
   pub home-without_other : (i : ℕ) (lists : List (List ℕ)) → (k ≡ i → ⊥) → home k (map (without i) lists) ≡ home k lists

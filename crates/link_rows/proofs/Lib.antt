@@ -6,3 +6,10 @@ pub mod Told
 pub mod Fronts
 pub mod Cuts
 pub mod Grown
+pub mod Held
+pub mod Lasts
+pub mod Moves
+pub mod WordBits
+pub mod Scans
+pub mod Lengths
+pub mod Tables

@@ -1,13 +1,12 @@
 -- What the arrays tell: the lists themselves, and that each item stands in one of them at most.
-use Rattle.std.proofs.Common.{◌≡◌, ℕ, ◌<◌, ◌≤◌, ◌^◌, true, false, eqb, ◌⊎◌, List, [], ◌∷◌, Option, Some, None, map, length, get_or, refl, sym, ap, ◌∙◌, subst, inl, inr, arith}
+use Rattle.std.proofs.Common.{◌≡◌, ℕ, ◌<◌, ◌≤◌, ◌^◌, true, false, eqb, List, [], ◌∷◌, Option, Some, None, length, sym, ap, ◌∙◌, subst, inl, inr, arith}
 use Rattle.std.specs.List.{IsDistinct, AllByRecursion}
 use Rattle.std.proofs.lemmas.Bool.{true≢false, cases_lt, or_parts}
 use Rattle.std.proofs.lemmas.List.{get_or_past, get_or-map, get_or_default, length-map, same_lists}
-use Rattle.std.proofs.lemmas.Map.Keys.{IsDistinct-cons}
 use Rattle.std.proofs.lemmas.Map.Steps.{length-le_from_distinct_below}
 use Rattle.link_rows.specs.declared.arrays.Link.{Link}
-use Rattle.link_rows.specs.Rows.{Linked, row, has, home, IsApart, AreApart}
-use Rattle.link_rows.specs.Links.{loose, link_of, first_at, walk, lists_of, IsChain, IsLinked}
+use Rattle.link_rows.specs.Rows.{Linked, row, has, IsApart, AreApart}
+use Rattle.link_rows.specs.Links.{loose, link_of, first_at, walk, lists_of, IsLinked}
 use Rattle.link_rows.proofs.Chains.{chain_owner, walk-chain}
 
 all_differ : (x : ℕ) (xs : List ℕ) → has x xs ≡ false → AllByRecursion (λ y. eqb x y ≡ false) xs
@@ -23,18 +22,20 @@ IsDistinct-from_apart (x ∷ xs) apart = (all_differ x xs apart.0, IsDistinct-fr
 pub owner-within : (links : List Link) (item head : ℕ) → (link_of links item).owner ≡ Some head → item < length links
 owner-within links item head owned =
     elim (cases_lt item (length links)) [
-      inl within ↦ within
-    | inr past ↦ absurd (let no : None ≡ Some head = sym (ap (λ l. l.owner) (get_or_past links item loose past)) ∙ owned in cc) ]
+      | inl within ↦ within
+      | inr past ↦ absurd (let no : None ≡ Some head = sym (ap (λ l. l.owner) (get_or_past links item loose past)) ∙ owned in cc)
+    ]
 
 module _ (firsts : List (Option ℕ)) (links : List Link) (lists : List (List ℕ)) (linked : IsLinked firsts links lists) where
   -- past the heads there are no lists
   pub has-head : (head item : ℕ) → has item (row lists head) ≡ true → head < length firsts
   has-head head item here =
       elim (cases_lt head (length firsts)) [
-        inl within ↦ within
-      | inr past ↦
-          let e : length lists ≤ head = omega (arith, linked.heads) in
-          absurd (true≢false (sym here ∙ ap (has item) (get_or_past lists head [] e))) ]
+        | inl within ↦ within
+        | inr past ↦
+            let e : length lists ≤ head = omega (arith, linked.heads) in
+            absurd (true≢false (sym here ∙ ap (has item) (get_or_past lists head [] e)))
+      ]
 
   pub has-owner : (head item : ℕ) → has item (row lists head) ≡ true → (link_of links item).owner ≡ Some head
   has-owner head item here =
@@ -45,7 +46,7 @@ module _ (firsts : List (Option ℕ)) (links : List Link) (lists : List (List �
   row-length : (head : ℕ) → head < length firsts → length (row lists head) ≤ length links
   row-length head within =
       length-le_from_distinct_below (row lists head) (length links) (IsDistinct-from_apart (row lists head) (linked.apart head within)) (λ item here.
-          owner-within links item head (has-owner head item here))
+      owner-within links item head (has-owner head item here))
 
   row-told : (head : ℕ) → head < length firsts → walk (length links) (link_of links) (first_at firsts head) ≡ row lists head
   row-told head within =
@@ -57,21 +58,22 @@ module _ (firsts : List (Option ℕ)) (links : List Link) (lists : List (List �
       let list = walk (length links) (link_of links) in
       let same_length = length-map firsts list ∙ sym linked.heads in
       same_lists (lists_of firsts links) lists same_length (λ k d within.
-          let in_firsts : k < length firsts = omega (arith, length-map firsts list) in
-          get_or-map list firsts k None d in_firsts ∙ row-told k in_firsts ∙ get_or_default lists k [] d (omega (arith, linked.heads)))
+      let in_firsts : k < length firsts = omega (arith, length-map firsts list) in
+      get_or-map list firsts k None d in_firsts ∙ row-told k in_firsts ∙ get_or_default lists k [] d (omega (arith, linked.heads)))
 
   -- and each item stands in one list at most
   pub apart_told : AreApart (record { lists = lists; items = length links })
   apart_told = record {
     each = λ head. elim (cases_lt head (length firsts)) [
-      inl within ↦ linked.apart head within
-    | inr past ↦
-        let e : length lists ≤ head = omega (arith, linked.heads) in
-        subst IsApart (sym (get_or_past lists head [] e)) tt ];
+      | inl within ↦ linked.apart head within
+      | inr past ↦
+          let e : length lists ≤ head = omega (arith, linked.heads) in
+          subst IsApart (sym (get_or_past lists head [] e)) tt
+    ];
     one = λ head item here. sym (linked.homes item) ∙ has-owner head item here;
     within = λ head item here. owner-within links item head (has-owner head item here);
     few = linked.few_items;
-    few_heads = subst (λ n. n < 2 ^ 32) (sym linked.heads) linked.few_heads
+    few_heads = subst (λ n. n < 2 ^ 32) (sym linked.heads) linked.few_heads;
   }
 
 -- arrays that hold some lists hold the lists that they tell

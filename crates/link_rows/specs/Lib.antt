@@ -1,2 +1,4 @@
 pub mod Rows
 pub mod Links
+pub mod BitRows
+pub mod Words

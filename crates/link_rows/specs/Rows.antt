@@ -35,6 +35,20 @@ after item (x ∷ xs) = if nat_eq item x then first_of xs else after item xs
 abbrev pub next_in : List (List ℕ) → ℕ → Option ℕ
 next_in lists item = option_and_then (λ head. after item (row lists head)) (home item lists)
 
+-- the last item of a list, or what stands before the list where it is empty
+abbrev pub last_or : Option ℕ → List ℕ → Option ℕ
+last_or prev [] = prev
+last_or prev (x ∷ xs) = last_or (Some x) xs
+
+-- the item that precedes an item in a list, or what stands before the list where it is the first
+abbrev pub before : Option ℕ → ℕ → List ℕ → Option ℕ
+before prev item [] = None
+before prev item (x ∷ xs) = if nat_eq item x then prev else before (Some x) item xs
+
+-- the item that precedes an item in the list of its head
+abbrev pub prev_in : List (List ℕ) → ℕ → Option ℕ
+prev_in lists item = option_and_then (λ head. before None item (row lists head)) (home item lists)
+
 -- a list with an item taken out
 abbrev pub without : ℕ → List ℕ → List ℕ
 without item [] = []

@@ -2,14 +2,16 @@
 -- The rule is told in docs/FORMATS.md, "The netlist".
 use Rattle.std.specs.Prelude.{◌≡◌, ℕ, Bool, true, false, not, List, [], ◌∷◌, ◌++◌, codes, if◌then◌else◌}
 use Rattle.verilog_lex.specs.declared.token.Token.{Token}
-use Rattle.token_words.specs.Words.{Word, key, name, open_parenthesis, close_parenthesis, comma, semicolon, words_of}
+use Rattle.token_words.specs.Word.{Word, key, name, open_parenthesis, close_parenthesis, comma, semicolon}
+use Rattle.token_words.specs.Words.{words_of}
 use Rattle.token_words.specs.declared.keyword.TheConstants.{BUF, ENDMODULE, MODULE, NOT, WIRE}
 use Rattle.result_files.specs.declared.one_gate_netlist.OneGateNetlist.{OneGateNetlist}
 
--- net 1 or net 0
+-- the name of net 1 or of net 0
 abbrev pub net_name : Bool → List ℕ
 net_name second = if second then codes "n1" else codes "n0"
 
+-- the word that names it
 abbrev pub net : Bool → Word
 net second = name (net_name second)
 

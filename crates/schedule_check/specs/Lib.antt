@@ -1,1 +1,2 @@
 pub mod OneGateCase
+pub mod Facts

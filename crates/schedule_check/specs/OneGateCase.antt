@@ -12,11 +12,11 @@ use Rattle.emu_machine.specs.Headline.{Headline}
 -- the design and the results, without groups, on a board of one chip and no wire
 abbrev pub one_gate_case : OneGate → ℕ → ℕ → OneAction → Case
 one_gate_case g room slots r =
-    record
-    { design = one_gate_parts g
-    ; groups = []
-    ; board = record { rooms = room ∷ []; wires = []; slots = slots }
-    ; results = one_action_results r
+    record {
+      design = one_gate_parts g;
+      groups = [];
+      board = record { rooms = room ∷ []; wires = []; slots = slots };
+      results = one_action_results r;
     }
 
 -- the subject of one of the two nets
@@ -27,10 +27,10 @@ subject_of r second = if second then r.second_subject else r.first_subject
 abbrev pub gate_fits : OneGate → ℕ → OneAction → Bool
 gate_fits g room r =
     not (same_bool r.gate_drives_second r.gate_reads_second)
-        && nat_lt 0 room
-        && same_bool g.inverts r.inverts
-        && (subject_of r r.gate_drives_second == output_net g)
-        && (subject_of r r.gate_reads_second == input_net g)
+    && nat_lt 0 room
+    && same_bool g.inverts r.inverts
+    && (subject_of r r.gate_drives_second == output_net g)
+    && (subject_of r r.gate_reads_second == input_net g)
 
 -- the frame is that of all inputs, and takes the input into the register
 abbrev pub frame_fits : OneGate → OneAction → Bool

@@ -6,6 +6,10 @@
 //! opening and every list of events.
 #![tactic(auto)]
 
+pub mod facts;
 mod one_gate;
 
 pub use one_gate::{accepted_agrees, is_accepted};
+
+#[cfg(test)]
+mod tests;

@@ -40,7 +40,11 @@ fn output_net(design: &OneGate) -> u32
 fn subject_of(results: &OneAction, second: bool) -> u32
     ensures { result ≡ subject_of results.now second }
 {
-    if second { results.second_subject } else { results.first_subject }
+    if second {
+        results.second_subject
+    } else {
+        results.first_subject
+    }
 }
 
 /// The gate is the design's gate, reads the net that it does not drive, and finds room.

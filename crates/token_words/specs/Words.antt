@@ -1,35 +1,11 @@
--- What a token says: what it is, and the bytes of a name.
+-- The words of a list of tokens.
+-- The rule is told in docs/FORMATS.md, "Tokens".
 use Rattle.std.specs.Prelude.{map, ℕ, List, [], option_map, slice_get, unwrap_or}
 use Rattle.std.specs.List.{slice_range}
 use Rattle.verilog_lex.specs.declared.token.Token.{Token}
 use Rattle.verilog_lex.specs.declared.token.TokenKind.{TokenKind}
-use Rattle.verilog_lex.specs.declared.token.TokenKind.TheVariants.{Name, Keyword, Mark}
-
--- no word but a name has bytes
-pub record Word : Type 0 where
-  pub kind : TokenKind
-  pub name : List ℕ
-
-abbrev pub key : ℕ → Word
-key place = record { kind = Keyword place; name = [] }
-
-abbrev pub mark : ℕ → Word
-mark byte = record { kind = Mark byte; name = [] }
-
-abbrev pub name : List ℕ → Word
-name bytes = record { kind = Name; name = bytes }
-
-abbrev pub open_parenthesis : Word
-open_parenthesis = mark 40
-
-abbrev pub close_parenthesis : Word
-close_parenthesis = mark 41
-
-abbrev pub comma : Word
-comma = mark 44
-
-abbrev pub semicolon : Word
-semicolon = mark 59
+use Rattle.verilog_lex.specs.declared.token.TokenKind.TheVariants.{Name}
+use Rattle.token_words.specs.Word.{Word}
 
 -- these bytes for a name, none for any other kind
 abbrev pub bytes_of : TokenKind → List ℕ → List ℕ
@@ -40,9 +16,11 @@ bytes_of _ _ = []
 abbrev pub name_of : List ℕ → Token → List ℕ
 name_of source token = bytes_of token.kind (slice_range source token.start token.end)
 
+-- what a token says
 abbrev pub word_of : List ℕ → Token → Word
 word_of source token = record { kind = token.kind; name = name_of source token }
 
+-- all words, first to last
 abbrev pub words_of : List ℕ → List Token → List Word
 words_of source tokens = map (word_of source) tokens
 

@@ -1,12 +1,12 @@
 //! What the tokens of a text say, whatever their places in it: the list of its words.
 //!
 //! A reader of a text of few words makes the words that it expects, and compares all tokens with
-//! them at once. The definitions are in `specs/Words.antt`.
+//! them at once. A word is told in `specs/Word.antt`, the words of tokens in `specs/Words.antt`.
 #![tactic(auto)]
 
 pub mod keyword;
-mod tokens;
 mod word;
+mod words;
 
-pub use tokens::{are_words, is_word_at, name_at};
 pub use word::Word;
+pub use words::{are_words, is_word_at, name_at};

@@ -1,7 +1,7 @@
 //! One word.
 
 ghost use Rattle.std.specs.Prelude.{◌≡◌};
-ghost use Rattle.token_words.specs.Words.{key, mark, name};
+ghost use Rattle.token_words.specs.Word.{key, mark, name};
 
 use std::marker::Model;
 use verilog_lex::TokenKind;
@@ -14,7 +14,7 @@ pub struct Word<'a> {
 }
 
 impl<'a> Model for Word<'a> {
-    ghost use Rattle.token_words.specs.Words.{Word};
+    ghost use Rattle.token_words.specs.Word.{Word};
 
     ghost Value = { Word };
 

@@ -1,6 +1,6 @@
 use Rattle.std.proofs.Common.{rules, sym, ◌∙◌, ap, is_some}
 use Rattle.token_words.specs.Words.{kinds_of}
-use Rattle.elaborator.specs.Guess.{place_behind}
+use Rattle.elaborator.specs.OneGateGuess.{place_behind}
 use Rattle.elaborator.proofs.Guesses.{guessed_parts, input_stands, item_stands, kinds_same, output_stands}
 use Rattle.elaborator.proofs.one_gate_guess.guessed_design.Goals as goal
 

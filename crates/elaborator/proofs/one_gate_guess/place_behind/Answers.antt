@@ -1,5 +1,5 @@
 use Rattle.std.proofs.Common.{◌+◌, sym, ◌∙◌}
-use Rattle.elaborator.specs.Guess.{is_key}
+use Rattle.elaborator.specs.OneGateGuess.{is_key}
 use Rattle.elaborator.proofs.Places.{found_here, found_later}
 use Rattle.elaborator.proofs.one_gate_guess.place_behind.Goals as goal
 

@@ -1,7 +1,7 @@
 use Rattle.std.proofs.Common.{◌≡◌, ◌+◌, drop}
 use Rattle.std.specs.List.{position_from}
 use Rattle.token_words.specs.Words.{kinds_of}
-use Rattle.elaborator.specs.Guess.{is_key, place_behind}
+use Rattle.elaborator.specs.OneGateGuess.{is_key, place_behind}
 use Rattle.elaborator.proofs.one_gate_guess.place_behind.Given as goal
 
 abbrev pub invariant-places : goal.invariant-places

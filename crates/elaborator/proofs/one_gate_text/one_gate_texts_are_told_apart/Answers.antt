@@ -1,4 +1,4 @@
-use Rattle.std.proofs.Common.{◌≡◌, ap}
+use Rattle.std.proofs.Common.{ap}
 use Rattle.elaborator.specs.declared.one_gate_guess.Guess.{Guess}
 use Rattle.elaborator.proofs.Guesses.{one_design}
 use Rattle.elaborator.proofs.one_gate_text.one_gate_texts_are_told_apart.Goals as goal

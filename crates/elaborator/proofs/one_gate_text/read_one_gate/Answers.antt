@@ -1,4 +1,4 @@
-use Rattle.std.proofs.Common.{◌≡◌, IsTrue, None, Some, subst, sym, ◌∙◌}
+use Rattle.std.proofs.Common.{◌≡◌, IsTrue, Some, subst, sym, ◌∙◌}
 use Rattle.token_words.specs.Words.{words_of}
 use Rattle.elaborator.specs.declared.one_gate_guess.Guess.{Guess}
 use Rattle.elaborator.specs.OneGateText.{Describes}

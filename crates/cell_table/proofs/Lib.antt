@@ -1,0 +1,5 @@
+pub mod MembersLemmas
+pub mod PinsLemmas
+pub mod JudgeLemmas
+pub mod TableLemmas
+pub mod FaultLemmas

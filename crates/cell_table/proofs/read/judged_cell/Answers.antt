@@ -1,0 +1,20 @@
+use Rattle.std.proofs.Common.{◌≡◌, None, sym, ap, ◌∙◌, refl}
+use Rattle.id_arena.specs.Names.{place_among}
+use Rattle.cell_table.specs.Faults.{written_fault}
+use Rattle.cell_table.proofs.FaultLemmas.{sound_cell}
+use Rattle.cell_table.proofs.read.judged_cell.Goals as goal
+
+pub cell_from-requires-clause-sized : goal.cell_from-requires-clause-sized
+cell_from-requires-clause-sized c =
+    let none : written_fault c.args.names.now c.in-Ok.written ≡ None = sym c.in_ok-fault.ensures ∙ c.in_default.is in
+    (sound_cell c.args.names.now c.in-Ok.written none).0
+
+pub cell_from-requires-clause-within : goal.cell_from-requires-clause-within
+cell_from-requires-clause-within c =
+    let none : written_fault c.args.names.now c.in-Ok.written ≡ None = sym c.in_ok-fault.ensures ∙ c.in_default.is in
+    (sound_cell c.args.names.now c.in-Ok.written none).1
+
+pub returns-clause-new : goal.returns-clause-new
+returns-clause-new c =
+    let none : written_fault c.args.names.now c.in-Ok.written ≡ None = sym c.in_ok-fault.ensures ∙ c.in_default.is in
+    rw c.in_ok-cell_from.ensures (sound_cell c.args.names.now c.in-Ok.written none).2

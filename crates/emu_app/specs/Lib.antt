@@ -1,0 +1,4 @@
+pub mod What
+pub mod Command
+pub mod Fetching
+pub mod Forms

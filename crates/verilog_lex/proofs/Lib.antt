@@ -1,0 +1,6 @@
+pub mod Values
+pub mod BlankSteps
+pub mod Cutting
+pub mod Reserved
+pub mod Within
+pub mod OneAnswer
