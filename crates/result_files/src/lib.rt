@@ -20,3 +20,6 @@ pub use one_gate_netlist::{
     OneGateNetlist, one_gate_netlists_are_told_apart, read_one_gate_netlist,
 };
 pub use two_net_map::{TwoNetMap, read_two_net_map, two_net_maps_are_told_apart};
+
+#[cfg(test)]
+mod form_tests;
