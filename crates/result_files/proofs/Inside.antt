@@ -8,6 +8,7 @@ use Rattle.serde_json.specs.Data.{Data, null, boolean, number, string, array, ob
 use Rattle.serde_json.specs.Find.{as_array, as_str, as_bool}
 use Rattle.serde_json.specs.View.{items_of, view}
 use Rattle.serde_json.specs.declared.value.Value.{Value}
+use Rattle.json_members.specs.JsonText.{IsTextOf}
 use Rattle.json_members.specs.Members.{number_of}
 use Rattle.result_files.specs.Trees.{list, whole, IsWord, IsWordTree}
 
@@ -90,3 +91,12 @@ empty (value ∷ values) e = grind (arith, nat_tests)
 
 pub is_empty : (values : List Value) → list (map view values) ≡ list [] → IsTrue (length values == 0)
 is_empty values e = let none : length values ≡ 0 = same_length values [] e in grind (arith, nat_tests)
+
+-- where nothing was found
+pub at_none : {A : Type 0} (P : Type 0) (Q : A → Type 0) (found : Option A) → found ≡ None → P → MatchOption found P Q
+at_none P Q None e p = p
+at_none P Q (Some x) e p = cc
+
+-- a text is one tree
+pub same_tree : (bytes : List ℕ) (t u : Data) → IsTextOf bytes t → IsTextOf bytes u → t ≡ u
+same_tree bytes t u a b = same_Some t u (sym a.reads ∙ b.reads)

@@ -2,13 +2,15 @@
 //!
 //! So far the only netlist that is read is that of one chip with one gate and one register, whose
 //! words `specs/OneGateNetlist.antt` lists; the only schedule is that of one frame with one slot and
-//! one action, whose JSON tree `specs/OneActionSchedule.antt` gives.
+//! one action, and the only map that of one chip with two nets and one register, whose JSON trees
+//! `specs/OneActionSchedule.antt` and `specs/TwoNetMap.antt` give.
 #![tactic(auto)]
 
 mod fault;
 mod one_action_schedule;
 mod one_gate_netlist;
 mod trees;
+mod two_net_map;
 
 pub use fault::FormFault;
 pub use one_action_schedule::{
@@ -17,3 +19,7 @@ pub use one_action_schedule::{
 pub use one_gate_netlist::{
     OneGateNetlist, one_gate_netlists_are_told_apart, read_one_gate_netlist,
 };
+pub use two_net_map::{TwoNetMap, read_two_net_map, two_net_maps_are_told_apart};
+
+#[cfg(test)]
+mod form_tests;

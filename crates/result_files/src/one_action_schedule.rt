@@ -29,10 +29,7 @@ pub struct OneActionSchedule {
 /// The schedule that a text stands for:
 /// `{"version":1,"frames":[{"group":"*","slots":[[["input",0,0,2]]]}]}`. Other members are passed
 /// over, and of members named twice the last counts. `NotYet` exactly where the text is no such one.
-pub fn read_one_action_schedule(
-    alloc: Global,
-    bytes: &[u8],
-) -> Result<OneActionSchedule, FormFault>
+pub fn read_one_action_schedule(alloc: Global, bytes: &[u8]) -> Result<OneActionSchedule, FormFault>
     ensures { Answers (SaysSchedule bytes.now) result }
 {
     let tree = read_json(alloc, bytes)?;
