@@ -1,3 +1,4 @@
 pub mod NineWords
 pub mod Fetches
 pub mod Readings
+pub mod OneCases

@@ -85,7 +85,7 @@ is_one_chip plan room slots one none here same =
         ∙ ap (λ most. plan_of (room ∷ []) [] most) (sym same)
 
 -- a text stands for one board
-one_plan : boards.EachTextHasOneAnswer → (text : List ℕ) (a b : BoardPlan) → boards.StandsFor text a → boards.StandsFor text b → a ≡ b
+pub one_plan : boards.EachTextHasOneAnswer → (text : List ℕ) (a b : BoardPlan) → boards.StandsFor text a → boards.StandsFor text b → a ≡ b
 one_plan law text a b stands-a stands-b =
     let left : Result BoardPlan BoardFault = Ok a in
     let right : Result BoardPlan BoardFault = Ok b in

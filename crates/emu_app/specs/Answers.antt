@@ -1,10 +1,9 @@
--- What a command answers, and when each answer comes.
+-- What `check` answers, and when each answer comes.
 -- The rules are told in docs/FORMATS.md, "Commands" and "Printed texts".
-use Rattle.std.specs.Prelude.{◌≡◌, ◌≤◌, ℕ, List, [], ◌∷◌, ◌++◌, length, take, flat_map, codes, decimal, Option, Some, None, IfSome}
+use Rattle.std.specs.Prelude.{◌≡◌, ◌≤◌, ℕ, List, length, take, Option, IfSome}
 use Rattle.emu_io.specs.Files.{Held}
 use Rattle.emu_io.specs.Faults.{Rose}
 use Rattle.emu_io.specs.Sink.{AppendsWhereTold}
-use Rattle.emu_machine.specs.declared.schedule.Frame.{Frame}
 use Rattle.emu_machine.specs.Acceptance.{Case, IsAccepted}
 use Rattle.emu_machine.specs.Headline.{Headline}
 use Rattle.emu_app.specs.declared.answer.Answer.{Answer}
@@ -12,59 +11,83 @@ use Rattle.emu_app.specs.declared.answer.Answer.TheVariants as answer
 use Rattle.emu_app.specs.declared.what.What.{What}
 use Rattle.emu_app.specs.declared.status.Status.{Status}
 use Rattle.emu_app.specs.declared.status.Status.TheVariants as status
-use Rattle.emu_app.specs.What.{label}
 use Rattle.emu_app.specs.Command.{CheckWords, IsCheck, IsNoCommand, name_of}
 use Rattle.emu_app.specs.Fetching.{Texts, AreHeld, NotThere, FirstTooLarge}
-use Rattle.emu_app.specs.Reading.{StandFor, FirstUnread}
+use Rattle.emu_app.specs.Printing.{accepted_text, text_of, status_of}
+use Rattle.emu_app.specs.Reading.{StandForOne, FirstUnread}
 
--- ## Printed texts
-
--- a line of bytes with its newline
-abbrev pub line : List ℕ → List ℕ
-line bytes = bytes ++ 10 ∷ []
-
-abbrev pub usage_text : List ℕ
-usage_text = line (codes "usage: emu check|compile|make|replay|settle")
-
--- `frame NAME LENGTH`
-abbrev pub frame_line : Frame → List ℕ
-frame_line frame = line (codes "frame " ++ frame.group ++ codes " " ++ decimal (length frame.slots))
-
--- `accepted`, and a line for each frame
-abbrev pub accepted_text : List Frame → List ℕ
-accepted_text frames = line (codes "accepted") ++ flat_map frame_line frames
-
-abbrev pub refused_text : What → List ℕ → List ℕ
-refused_text what fault = line (codes "refused " ++ label what ++ codes " " ++ fault)
-
-abbrev pub read_fault_text : List ℕ → List ℕ
-read_fault_text name = line (codes "read fault " ++ name)
-
--- ## What is said of the texts that are held, where the files tell what they hold
-
--- The texts that are held stand for a case, and for no other, and the rules A1 to A12 hold for it: then the
--- machine agrees with the design after every event, for every opening and every list of events.
-pub record CheckAccepts (held : Held) (n : CheckWords) (frames : List Frame) : Type 0 where
-  pub texts : Texts
-  pub are_held : AreHeld held n texts
+-- The texts stand for one case, and the rules A1 to A12 hold for it: then the machine agrees with the
+-- design after every event, for every opening and every list of events. The text lists its frames.
+pub record Accepts (top : List ℕ) (texts : Texts) (printed : List ℕ) : Type 0 where
   pub judged : Case
-  pub stand : StandFor n.top texts judged
-  pub one : (other : Case) → StandFor n.top texts other → other ≡ judged
+  pub stand : StandForOne top texts judged
   pub accepted : IsAccepted judged
   pub headline : Headline judged
-  pub frames_are : judged.results.schedule.frames ≡ frames
+  pub prints : accepted_text judged.results.schedule.frames ≡ printed
 
--- the texts that are held stand for a case, and for no other, and one of the rules A1 to A12 fails for it
-pub record CheckRejects (held : Held) (n : CheckWords) : Type 0 where
-  pub texts : Texts
-  pub are_held : AreHeld held n texts
+-- the texts stand for one case, and one of the rules A1 to A12 fails for it
+pub record Rejects (top : List ℕ) (texts : Texts) : Type 0 where
   pub judged : Case
-  pub stand : StandFor n.top texts judged
-  pub one : (other : Case) → StandFor n.top texts other → other ≡ judged
+  pub stand : StandForOne top texts judged
   pub rejected : IsAccepted judged → ⊥
 
--- all texts are held, and this one is the first that is not of the form that is read so far
-pub record CheckRefuses (held : Held) (n : CheckWords) (what : What) : Type 0 where
+-- what the texts of `check` come to; it is no matter of other answers
+abbrev pub JudgeMeans : List ℕ → Texts → Answer → Type 0
+JudgeMeans top texts (answer.Accepted group) = Accepts top texts (text_of (answer.Accepted group))
+JudgeMeans top texts answer.Rejected = Rejects top texts
+JudgeMeans top texts (answer.NotYet what) = FirstUnread top texts what
+JudgeMeans top texts other = ⊥
+
+-- the texts that are held under these names, which are all there and within their limits, come to an answer
+pub record HeldMeans (held : Held) (n : CheckWords) (found : Answer) : Type 0 where
   pub texts : Texts
   pub are_held : AreHeld held n texts
-  pub unread : FirstUnread n.top texts what
+  pub means : JudgeMeans n.top texts found
+
+-- why a text could not be fetched: the printed name is that of a text of the command
+pub record ReadFails (told : Option Held) (before now : ℕ) (blamed : Option (List ℕ)) (n : CheckWords) (name : List ℕ) : Type 0 where
+  pub what : What
+  pub named : name ≡ name_of n what
+  pub cause : NotThere told before now blamed name
+
+-- by the answer of `check`, with the counts of failed fetches before and after
+abbrev pub CheckMeans : Option Held → ℕ → ℕ → Option (List ℕ) → CheckWords → Answer → Type 0
+CheckMeans told before now blamed n answer.Usage = ⊥
+CheckMeans told before now blamed n (answer.TooLarge what) = FirstTooLarge told before now n what
+CheckMeans told before now blamed n (answer.ReadFault name) = ReadFails told before now blamed n name
+CheckMeans told before now blamed n found = IfSome told (λ held. HeldMeans held n found)
+
+-- the words are those of `check`, and it came to this answer
+pub record IsChecked (told : Option Held) (before now : ℕ) (blamed : Option (List ℕ)) (words : List (List ℕ)) (found : Answer) : Type 0 where
+  pub names : CheckWords
+  pub shape : IsCheck words names
+  pub means : CheckMeans told before now blamed names found
+
+-- by the answer of a command: `Usage` exactly for words that are those of no command
+abbrev pub CommandMeans : Option Held → ℕ → ℕ → Option (List ℕ) → List (List ℕ) → Answer → Type 0
+CommandMeans told before now blamed words answer.Usage = IsNoCommand words
+CommandMeans told before now blamed words found = IsChecked told before now blamed words found
+
+-- what is written of an answer's text: all of it
+pub record Prints (Means : Answer → Type 0) (old new : Option (List ℕ)) (ended : Status) : Type 0 where
+  pub found : Answer
+  pub means : Means found
+  pub status_is : status_of found ≡ ended
+  pub text : AppendsWhereTold old (text_of found) new
+
+-- what is written where a put failed: some first bytes of the text that was due
+pub record PrintFails (Means : Answer → Type 0) (old new : Option (List ℕ)) (before now : ℕ) : Type 0 where
+  pub rose : Rose before now
+  pub found : Answer
+  pub means : Means found
+  pub count : ℕ
+  pub some : count ≤ length (text_of found)
+  pub text : AppendsWhereTold old (take count (text_of found)) new
+
+-- By the status. `WriteFault` comes where a put failed; want of memory leaves what was written; with any
+-- other status the whole text of an answer of that status is written.
+abbrev pub Ends : (Answer → Type 0) → Option (List ℕ) → Option (List ℕ) → ℕ → ℕ → Status → Type 0
+Ends Means old new before now status.WriteFault = PrintFails Means old new before now
+Ends Means old new before now status.NoMemory = new ≡ old
+Ends Means old new before now status.NoFit = ⊥
+Ends Means old new before now ended = Prints Means old new ended

@@ -34,11 +34,8 @@ results_of netlist schedule map =
     ; shows_second = map.shows_second
     }
 
--- the texts, with this name for the top, stand for a case: each is of the form that is read so far
-pub record StandFor (top : List ℕ) (texts : Texts) (c : Case) : Type 0 where
-  pub gate : OneGate
-  pub room : ℕ
-  pub slots : ℕ
+-- the texts, with this name for the top, say this design, this board and these results, and no groups
+pub record Say (top : List ℕ) (texts : Texts) (gate : OneGate) (room slots : ℕ) (results : OneAction) : Type 0 where
   pub netlist : OneGateNetlist
   pub schedule : OneActionSchedule
   pub map : TwoNetMap
@@ -48,7 +45,21 @@ pub record StandFor (top : List ℕ) (texts : Texts) (c : Case) : Type 0 where
   pub says_netlist : SaysNetlist (texts Netlist) netlist
   pub says_schedule : SaysSchedule (texts Schedule) schedule
   pub says_map : SaysMap (texts Map) map
-  pub is : c ≡ one_gate_case gate room slots (results_of netlist schedule map)
+  pub is : results ≡ results_of netlist schedule map
+
+-- the texts stand for a case: each is of the form that is read so far
+pub record StandFor (top : List ℕ) (texts : Texts) (c : Case) : Type 0 where
+  pub gate : OneGate
+  pub room : ℕ
+  pub slots : ℕ
+  pub results : OneAction
+  pub say : Say top texts gate room slots results
+  pub is : c ≡ one_gate_case gate room slots results
+
+-- the texts stand for this case alone
+pub record StandForOne (top : List ℕ) (texts : Texts) (c : Case) : Type 0 where
+  pub stand : StandFor top texts c
+  pub one : (other : Case) → StandFor top texts other → other ≡ c
 
 -- a text is of the form that is read so far; that of the cells is not read
 abbrev pub IsRead : List ℕ → What → List ℕ → Type 0
@@ -64,3 +75,8 @@ IsRead top Map text = (map : TwoNetMap) × SaysMap text map
 pub record FirstUnread (top : List ℕ) (texts : Texts) (what : What) : Type 0 where
   pub here : IsRead top what (texts what) → ⊥
   pub earlier : (other : What) → order other < order what → IsRead top other (texts other)
+
+-- texts stand for one case at most
+abbrev pub TextsTellCasesApart : Type 0
+TextsTellCasesApart =
+    (top : List ℕ) (texts : Texts) (c d : Case) → StandFor top texts c → StandFor top texts d → d ≡ c

@@ -1,8 +1,12 @@
 //! What a command answers: a status and a text.
 
+ghost use Rattle.std.specs.Prelude.{◌++◌, ◌≡◌, IfOk, OnErr, OnOk};
+ghost use Rattle.emu_app.specs.Printing.{accepted_text_of, line, status_of, text_of};
+
 use crate::status::Status;
 use crate::what::What;
-use emu_io::Text;
+use emu_io::{NoMemory, Text};
+use std::alloc::Global;
 
 /// What a command found.
 #[derive(Debug, Drop)]
@@ -19,4 +23,63 @@ pub enum Answer {
     NotYet(What),
     /// The text of this name could not be fetched.
     ReadFault { name: Text },
+}
+
+impl Answer {
+    /// How the command ends, where its text is written.
+    pub fn status(&self) -> Status
+        ensures { result ≡ status_of self.now }
+    {
+        match self {
+            Answer::Usage => Status::Usage,
+            Answer::Accepted { .. } => Status::Ok,
+            Answer::Rejected => Status::Rejected,
+            Answer::TooLarge(_) | Answer::NotYet(_) => Status::Refused,
+            Answer::ReadFault { .. } => Status::ReadFault,
+        }
+    }
+
+    /// The text that the command prints.
+    pub fn text(&self, alloc: Global) -> Result<Vec<u8>, NoMemory>
+        ensures { IfOk result (λ text. text.items ≡ text_of self.now) }
+    {
+        match self {
+            Answer::Usage => line(alloc, b"usage: emu check|compile|make|replay|settle", b"", b""),
+            Answer::Accepted { group } => accepted_text(alloc, group.bytes()),
+            Answer::Rejected => line(alloc, b"rejected", b"", b""),
+            Answer::TooLarge(what) => line(alloc, b"refused ", what.label(), b" TooLarge"),
+            Answer::NotYet(what) => line(alloc, b"refused ", what.label(), b" NotYet"),
+            Answer::ReadFault { name } => line(alloc, b"read fault ", name.bytes(), b""),
+        }
+    }
+}
+
+/// Puts bytes at the end.
+fn append(text: &mut Vec<u8>, bytes: &[u8]) -> Result<(), NoMemory>
+    ensures ok { OnOk result (text.new.items ≡ text.old.items ++ bytes.now) }
+{
+    text.extend_from_slice(bytes)?;
+    Ok(())
+}
+
+/// A line of three pieces.
+fn line(alloc: Global, first: &[u8], second: &[u8], third: &[u8]) -> Result<Vec<u8>, NoMemory>
+    ensures { IfOk result (λ text. text.items ≡ line (first.now ++ second.now ++ third.now)) }
+{
+    let mut text = Vec::new(alloc);
+    append(&mut text, first)?;
+    append(&mut text, second)?;
+    append(&mut text, third)?;
+    append(&mut text, b"\n")?;
+    Ok(text)
+}
+
+/// The line that says `accepted`, and the line of the one frame.
+fn accepted_text(alloc: Global, group: &[u8]) -> Result<Vec<u8>, NoMemory>
+    ensures { IfOk result (λ text. text.items ≡ accepted_text_of group.now) }
+{
+    let mut text = line(alloc, b"accepted", b"", b"")?;
+    let frame = line(alloc, b"frame ", group, b" 1")?;
+    append(&mut text, frame.as_slice())?;
+    Ok(text)
 }

@@ -1,9 +1,14 @@
 //! Reading the texts of a command: each is of the form that is read so far, or it is not.
 
-ghost use Rattle.std.specs.Prelude.{◌<◌, ◌^◌, ◌≡◌, ◌∷◌, [], ℕ, IfOk, List, MatchOption, length};
+ghost use Rattle.std.specs.Prelude.{◌<◌, ◌^◌, ◌≡◌, ◌∷◌, [], ℕ, ◌↔◌, IfOk, IsTrue, List, MatchOption, length};
 ghost use Rattle.design_core.specs.declared.one_gate.OneGate.{OneGate};
 ghost use Rattle.result_files.specs.declared.one_gate_netlist.OneGateNetlist.{OneGateNetlist};
 ghost use Rattle.verilog_lex.specs.declared.token.Token.{Token};
+ghost use Rattle.domain_groups.specs.NoGroups.{SaysNoGroups};
+ghost use Rattle.result_files.specs.declared.one_action_schedule.OneActionSchedule.{OneActionSchedule};
+ghost use Rattle.result_files.specs.declared.two_net_map.TwoNetMap.{TwoNetMap};
+ghost use Rattle.result_files.specs.OneActionSchedule.{SaysSchedule};
+ghost use Rattle.result_files.specs.TwoNetMap.{SaysMap};
 ghost use Rattle.emu_app.specs.Forms.{AreTokens, SaysBoard, SaysDesign, SaysNetlist};
 
 use board_model::{Board, BoardFault, read_board};
@@ -11,7 +16,11 @@ use design_core::OneGate;
 use elaborator::{ElabFault, read_one_gate};
 use emu_io::NoMemory;
 use id_arena::{ChipId, Key};
-use result_files::{OneGateNetlist, read_one_gate_netlist};
+use domain_groups::{GroupFault, read_no_groups};
+use result_files::{
+    FormFault, OneActionSchedule, OneGateNetlist, TwoNetMap, read_one_action_schedule, read_one_gate_netlist,
+    read_two_net_map,
+};
 use std::alloc::Global;
 use verilog_lex::{LexFault, Tokens, tokens};
 
@@ -56,6 +65,39 @@ pub fn read_netlist(alloc: Global, text: &[u8]) -> Result<Option<OneGateNetlist>
         return Ok(None);
     };
     Ok(read_one_gate_netlist(text, &tokens))
+}
+
+/// Whether a text names no group.
+pub fn says_no_groups(alloc: Global, text: &[u8]) -> Result<bool, NoMemory>
+    ensures { IfOk result (λ yes. IsTrue yes ↔ SaysNoGroups text.now) }
+{
+    match read_no_groups(alloc, text) {
+        Ok(()) => Ok(true),
+        Err(GroupFault::NotYet) => Ok(false),
+        Err(GroupFault::NoMemory) => Err(NoMemory),
+    }
+}
+
+/// The schedule of one action that a text says; None exactly where it says none.
+pub fn read_schedule(alloc: Global, text: &[u8]) -> Result<Option<OneActionSchedule>, NoMemory>
+    ensures { IfOk result (λ found. MatchOption found ((schedule : OneActionSchedule) → SaysSchedule text.now schedule → ⊥) (SaysSchedule text.now)) }
+{
+    match read_one_action_schedule(alloc, text) {
+        Ok(schedule) => Ok(Some(schedule)),
+        Err(FormFault::NotYet) => Ok(None),
+        Err(FormFault::NoMemory) => Err(NoMemory),
+    }
+}
+
+/// The map of two nets that a text says; None exactly where it says none.
+pub fn read_map(alloc: Global, text: &[u8]) -> Result<Option<TwoNetMap>, NoMemory>
+    ensures { IfOk result (λ found. MatchOption found ((map : TwoNetMap) → SaysMap text.now map → ⊥) (SaysMap text.now)) }
+{
+    match read_two_net_map(alloc, text) {
+        Ok(map) => Ok(Some(map)),
+        Err(FormFault::NotYet) => Ok(None),
+        Err(FormFault::NoMemory) => Err(NoMemory),
+    }
 }
 
 /// A board of one chip without wires.

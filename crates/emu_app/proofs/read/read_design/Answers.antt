@@ -1,5 +1,5 @@
 use Rattle.std.proofs.Common.{subst, Err}
-use Rattle.elaborator.specs.Answers.{Answers}
+use Rattle.elaborator.specs.OneGateText.{Answers}
 use Rattle.emu_app.proofs.Readings.{found_tokens, no_design}
 use Rattle.emu_app.proofs.read.read_design.Goals as goal
 

@@ -1,0 +1,78 @@
+-- That texts stand for one case at most, and what an accepted case prints.
+use Rattle.std.proofs.Common.{ℕ, ◌≡◌, ◌<◌, ◌++◌, List, [], ◌∷◌, refl, sym, ◌∙◌, ap, subst, absurd}
+use Rattle.std.specs.Prelude.{codes}
+use Rattle.verilog_lex.specs.declared.token.Token.{Token}
+use Rattle.verilog_lex.specs.Reads as reading
+use Rattle.design_core.specs.declared.one_gate.OneGate.{OneGate}
+use Rattle.elaborator.specs.OneGateText as designs
+use Rattle.board_model.specs.Answers as boards
+use Rattle.id_arena.specs.BoardPlan.{BoardPlan}
+use Rattle.result_files.specs.declared.one_gate_netlist.OneGateNetlist.{OneGateNetlist}
+use Rattle.result_files.specs.declared.one_action_schedule.OneActionSchedule.{OneActionSchedule}
+use Rattle.result_files.specs.declared.two_net_map.TwoNetMap.{TwoNetMap}
+use Rattle.result_files.specs.OneGateNetlist as netlists
+use Rattle.result_files.specs.OneActionSchedule as schedules
+use Rattle.result_files.specs.TwoNetMap as maps
+use Rattle.emu_machine.specs.declared.one_action.OneAction.{OneAction}
+use Rattle.emu_machine.specs.Acceptance.{Case}
+use Rattle.schedule_check.specs.OneGateCase.{one_gate_case}
+use Rattle.emu_app.specs.declared.what.What.TheVariants.{Design, Board, Netlist, Schedule, Map}
+use Rattle.emu_app.specs.Fetching.{Texts}
+use Rattle.emu_app.specs.Forms.{AreTokens, SaysDesign, SaysBoard, SaysNetlist}
+use Rattle.emu_app.specs.Reading.{Say, StandFor, results_of}
+use Rattle.emu_app.specs.Printing.{accepted_text, accepted_text_of}
+use Rattle.emu_app.specs.declared.check.OneCase.{OneCase}
+use Rattle.emu_app.specs.Cases.{case_of}
+use Rattle.emu_app.proofs.Readings.{tokens_once, one_plan, one_chip_plan}
+
+-- a text describes one design
+one_design : reading.EachTextHasOneAnswer → designs.TextsTellDesignsApart → (top text : List ℕ) (g h : OneGate) → SaysDesign top text g → SaysDesign top text h → g ≡ h
+one_design law apart top text g h says-g says-h =
+    let same : says-h.tokens ≡ says-g.tokens = tokens_once law text says-g.tokens says-g.are_tokens says-h.tokens says-h.are_tokens in
+    apart text says-g.tokens top g h says-g.describes (subst (λ ts. designs.IsOneGateText text ts top h) same says-h.describes)
+
+-- a text writes down one netlist
+one_netlist : reading.EachTextHasOneAnswer → netlists.TextsTellNetlistsApart → (text : List ℕ) (m n : OneGateNetlist) → SaysNetlist text m → SaysNetlist text n → m ≡ n
+one_netlist law apart text m n says-m says-n =
+    let same : says-n.tokens ≡ says-m.tokens = tokens_once law text says-m.tokens says-m.are_tokens says-n.tokens says-n.are_tokens in
+    apart text says-m.tokens m n says-m.writes (subst (λ ts. netlists.IsOneGateNetlist text ts n) same says-n.writes)
+
+first_room : List ℕ → ℕ
+first_room [] = 0
+first_room (x ∷ xs) = x
+
+-- what texts say is one design, one board and one set of results
+same_room : boards.EachTextHasOneAnswer → (text : List ℕ) (room slots other most : ℕ) → SaysBoard text room slots → SaysBoard text other most → room ≡ other
+unfolding first_room
+same_room law text room slots other most a b = ap (λ plan. first_room plan.rooms) (one_plan law text (one_chip_plan room slots) (one_chip_plan other most) a b)
+
+same_slots : boards.EachTextHasOneAnswer → (text : List ℕ) (room slots other most : ℕ) → SaysBoard text room slots → SaysBoard text other most → slots ≡ most
+same_slots law text room slots other most a b = ap (λ plan. plan.slots) (one_plan law text (one_chip_plan room slots) (one_chip_plan other most) a b)
+
+same_results : reading.EachTextHasOneAnswer → netlists.TextsTellNetlistsApart → schedules.TextsTellSchedulesApart → maps.TextsTellMapsApart
+    → (top : List ℕ) (texts : Texts) (g h : OneGate) (room slots other most : ℕ) (a b : OneAction)
+    → Say top texts g room slots a → Say top texts h other most b → a ≡ b
+same_results tokens netlists-apart schedules-apart maps-apart top texts g h room slots other most a b say-a say-b =
+    let n : say-a.netlist ≡ say-b.netlist = one_netlist tokens netlists-apart (texts Netlist) say-a.netlist say-b.netlist say-a.says_netlist say-b.says_netlist in
+    let s : say-a.schedule ≡ say-b.schedule = schedules-apart (texts Schedule) say-a.schedule say-b.schedule say-a.says_schedule say-b.says_schedule in
+    let m : say-a.map ≡ say-b.map = maps-apart (texts Map) say-a.map say-b.map say-a.says_map say-b.says_map in
+    say-a.is
+        ∙ ap (λ x. results_of x say-a.schedule say-a.map) n
+        ∙ ap (λ x. results_of say-b.netlist x say-a.map) s
+        ∙ ap (λ x. results_of say-b.netlist say-b.schedule x) m
+        ∙ sym say-b.is
+
+-- texts stand for one case at most
+pub one_case : reading.EachTextHasOneAnswer → designs.TextsTellDesignsApart → boards.EachTextHasOneAnswer → netlists.TextsTellNetlistsApart → schedules.TextsTellSchedulesApart → maps.TextsTellMapsApart
+    → (top : List ℕ) (texts : Texts) (c d : Case) → StandFor top texts c → StandFor top texts d → d ≡ c
+one_case tokens designs-apart boards-law netlists-apart schedules-apart maps-apart top texts c d sc sd =
+    let gate : sd.gate ≡ sc.gate = one_design tokens designs-apart top (texts Design) sd.gate sc.gate sd.say.says_design sc.say.says_design in
+    let room : sd.room ≡ sc.room = same_room boards-law (texts Board) sd.room sd.slots sc.room sc.slots sd.say.says_board sc.say.says_board in
+    let slots : sd.slots ≡ sc.slots = same_slots boards-law (texts Board) sd.room sd.slots sc.room sc.slots sd.say.says_board sc.say.says_board in
+    let results : sd.results ≡ sc.results = same_results tokens netlists-apart schedules-apart maps-apart top texts sd.gate sc.gate sd.room sd.slots sc.room sc.slots sd.results sc.results sd.say sc.say in
+    sd.is
+        ∙ ap (λ g. one_gate_case g sd.room sd.slots sd.results) gate
+        ∙ ap (λ n. one_gate_case sc.gate n sd.slots sd.results) room
+        ∙ ap (λ n. one_gate_case sc.gate sc.room n sd.results) slots
+        ∙ ap (λ r. one_gate_case sc.gate sc.room sc.slots r) results
+        ∙ sym sc.is

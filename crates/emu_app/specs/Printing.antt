@@ -1,0 +1,41 @@
+-- The text that each answer prints, and its status.
+-- The rule is told in docs/FORMATS.md, "Printed texts".
+use Rattle.std.specs.Prelude.{ℕ, List, [], ◌∷◌, ◌++◌, codes, decimal, length, flat_map}
+use Rattle.emu_machine.specs.declared.schedule.Frame.{Frame}
+use Rattle.emu_app.specs.declared.answer.Answer.{Answer}
+use Rattle.emu_app.specs.declared.answer.Answer.TheVariants as answer
+use Rattle.emu_app.specs.declared.status.Status.{Status}
+use Rattle.emu_app.specs.declared.status.Status.TheVariants as status
+use Rattle.emu_app.specs.What.{label}
+
+-- bytes with a newline after them
+abbrev pub line : List ℕ → List ℕ
+line bytes = bytes ++ 10 ∷ []
+
+-- `frame NAME LENGTH`
+abbrev pub frame_line : Frame → List ℕ
+frame_line frame = line (codes "frame " ++ frame.group ++ codes " " ++ decimal (length frame.slots))
+
+-- `accepted`, and a line for each frame
+abbrev pub accepted_text : List Frame → List ℕ
+accepted_text frames = line (codes "accepted") ++ flat_map frame_line frames
+
+-- the same for one frame of one slot
+abbrev pub accepted_text_of : List ℕ → List ℕ
+accepted_text_of group = line (codes "accepted") ++ line (codes "frame " ++ group ++ codes " 1")
+
+abbrev pub text_of : Answer → List ℕ
+text_of answer.Usage = line (codes "usage: emu check|compile|make|replay|settle")
+text_of (answer.Accepted group) = accepted_text_of group
+text_of answer.Rejected = line (codes "rejected")
+text_of (answer.TooLarge what) = line (codes "refused " ++ label what ++ codes " TooLarge")
+text_of (answer.NotYet what) = line (codes "refused " ++ label what ++ codes " NotYet")
+text_of (answer.ReadFault name) = line (codes "read fault " ++ name)
+
+abbrev pub status_of : Answer → Status
+status_of answer.Usage = status.Usage
+status_of (answer.Accepted group) = status.Ok
+status_of answer.Rejected = status.Rejected
+status_of (answer.TooLarge what) = status.Refused
+status_of (answer.NotYet what) = status.Refused
+status_of (answer.ReadFault name) = status.ReadFault
