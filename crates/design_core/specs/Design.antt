@@ -132,10 +132,11 @@ abbrev pub is_memory : ℕ → Element → Bool
 is_memory n (element.Memory m) = m.place == n
 is_memory n other = false
 
--- A design: no net has two drivers, each net that is read has one, each memory is one element, and
--- the shapes of elements and memories fit.
+-- A design: each net that something drives is there, no net has two drivers, each net that is read has
+-- one, each memory is one element, and the shapes of elements and memories fit.
 pub record IsDesign (p : Parts) : Type 0 where
   pub constants : 2 ≤ net_count p
+  pub in_range : (n : ℕ) → 0 < driver_count p n → n < net_count p
   pub one_driver : (n : ℕ) → n < net_count p → driver_count p n ≤ 1
   pub driven : (n : ℕ) → IsTrue (includes (nets_read p) n) → (n < net_count p) × (driver_count p n ≡ 1)
   pub one_element : (m : ℕ) → m < length p.memories → count_by (is_memory m) p.elements ≡ 1

@@ -13,6 +13,10 @@ pub record Group : Type 0 where
   pub name : List ℕ
   pub nets : List NetId
 
+-- a group of a design: each of its nets is a bit of an input port
+abbrev pub IsGroup : Parts → Group → Type 0
+IsGroup p group = (n : NetId) → Contains group.nets n → Contains (port_bits p.inputs) n
+
 -- the groups that have a frame: each group, and last the one of all inputs, whose name is `*`
 abbrev pub all_groups : Parts → List Group → List Group
 all_groups p groups = groups ++ record { name = codes "*"; nets = port_bits p.inputs } ∷ []

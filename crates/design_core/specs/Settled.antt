@@ -48,7 +48,7 @@ pub record Opening : Type 0 where
 -- the words that an opening gives are below 2 to the width of their memory
 abbrev pub OpeningFits : Parts → Opening → Type 0
 OpeningFits p o =
-    (m a : ℕ) (memory : Memory) → slice_get p.memories m ≡ Some memory → o.words m a < 2 ^ memory.width
+    (m a : ℕ) (memory : Memory) → slice_get p.memories m ≡ Some memory → a < 2 ^ memory.address_bits → o.words m a < 2 ^ memory.width
 
 -- a flip-flop that no reset forces, and a latch that passes nothing, have the state that is given
 abbrev pub HasState : Valuation → Bool → Element → Type 0

@@ -3,6 +3,7 @@
 use Rattle.std.specs.Prelude.{◌≡◌, ◌<◌, ℕ, Some, slice_get, length}
 use Rattle.design_core.specs.Design.{IsDesign}
 use Rattle.design_core.specs.Dependency.{IsRanked}
+use Rattle.design_core.specs.Influence.{Group, IsGroup}
 use Rattle.emu_machine.specs.declared.netlist.Chip.{Chip}
 use Rattle.emu_machine.specs.declared.netlist.EmuMemory.{EmuMemory}
 use Rattle.emu_machine.specs.declared.map.ChipMap.{ChipMap}
@@ -32,10 +33,12 @@ pub record MapFits (r : Results) : Type 0 where
       → slice_get r.net c ≡ Some chip → slice_get r.map.chips c ≡ Some entry → ChipEntryFits chip entry
   pub outputs : (k : ℕ) (spot : Spot) → slice_get r.map.outputs k ≡ Some spot → spot.net.place < (chip_at r.net spot.chip.place).nets
 
--- a case that stands: a ranked design, netlists whose nets have one driver each, and a map of their counts
+-- a case that stands: a ranked design, groups of its inputs, netlists whose nets have one driver each,
+-- and a map of their counts
 pub record IsCase (c : Case) : Type 0 where
   pub design : IsDesign c.design
   pub ranked : IsRanked c.design
+  pub groups : (k : ℕ) (g : Group) → slice_get c.groups k ≡ Some g → IsGroup c.design g
   pub netlist : IsNetlist c.results.net
   pub mapped : MapFits c.results
 

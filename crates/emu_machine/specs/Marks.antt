@@ -132,7 +132,7 @@ net_mark p r inside s c n =
 abbrev pub net_marks : Parts → Results → (NodeId → Bool) → MarkState → ℕ → List ChipNetId → List Mark
 net_marks p r inside s c nets = map (λ n. net_mark p r inside s c n.place) nets
 
--- how many write ports the design's memory has, and how many of them the event cannot reach
+-- the write nodes of a memory of the design, and of the one that memory `m` of chip `c` stands for
 abbrev pub design_writes : Parts → ℕ → List NodeId
 design_writes p m = option_map_or (λ memory. write_nodes (record { place = m }) memory) (slice_get p.memories m) []
 
