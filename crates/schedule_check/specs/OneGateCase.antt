@@ -41,6 +41,10 @@ frame_fits g r =
 abbrev pub map_fits : OneAction → Bool
 map_fits r = r.kept && same_bool r.shows_second r.gate_drives_second
 
+-- the gate, the frame and the map fit
+abbrev pub meets_tests : OneGate → ℕ → OneAction → Bool
+meets_tests g room r = gate_fits g room r && frame_fits g r && map_fits r
+
 -- where the twelve rules hold, the machine agrees with the design, whatever the opening and the events
 abbrev pub AcceptedAgrees : Type 0
 AcceptedAgrees =
