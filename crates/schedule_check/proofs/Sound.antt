@@ -1,6 +1,6 @@
 -- What the judge's tests come to, as equations: the results are the plainest ones for the design.
-use Rattle.std.proofs.Common.{◌≡◌, ℕ, zero, suc, ◌<◌, arith, Bool, true, false, not, List, refl, subst, sym, if◌then◌else◌}
-use Rattle.std.specs.Prelude.{◌==◌, ◌&&◌, nat_lt, nat_le, codes, bytes_eq}
+use Rattle.std.proofs.Common.{◌≡◌, ℕ, ◌<◌, arith, Bool, true, false, not, List, refl, subst, sym, if◌then◌else◌}
+use Rattle.std.specs.Prelude.{◌==◌, ◌&&◌, nat_lt, nat_le, codes}
 use Rattle.std.proofs.lemmas.Bool.Decides.{nat_tests}
 use Rattle.std.proofs.lemmas.Slice.Eq.{bytes_eq-Decides}
 use Rattle.design_core.specs.declared.one_gate.OneGate.{OneGate}
@@ -9,7 +9,7 @@ use Rattle.emu_machine.specs.declared.one_action.OneAction.{OneAction}
 use Rattle.emu_machine.specs.Origins.{same_bool}
 use Rattle.emu_machine.specs.Acceptance.{IsAccepted}
 use Rattle.schedule_check.specs.OneGateCase.{one_gate_case, subject_of, gate_fits, frame_fits, map_fits, meets_tests}
-use Rattle.schedule_check.proofs.Plain.{answer, plain, input_of, output_of, no}
+use Rattle.schedule_check.proofs.Plain.{answer, no}
 use Rattle.schedule_check.proofs.Rules.{accepted}
 
 pub record IsSound (g : OneGate) (room : ℕ) (r : OneAction) : Type 0 where

@@ -1,6 +1,6 @@
 -- What the judge is asked about the plainest design and results, and what acceptance comes to there.
 -- The rules are told in docs/RULES.md, "Acceptance" and "The headline".
-use Rattle.std.specs.Prelude.{ℕ, ◌==◌, ◌&&◌, nat_lt, Bool, true, not, List, [], ◌∷◌, codes, bytes_eq, if◌then◌else◌}
+use Rattle.std.specs.Prelude.{ℕ, ◌==◌, ◌&&◌, nat_lt, Bool, not, [], ◌∷◌, codes, bytes_eq, if◌then◌else◌}
 use Rattle.design_core.specs.declared.one_gate.OneGate.{OneGate}
 use Rattle.design_core.specs.OneGate.{one_gate_parts, input_net, output_net}
 use Rattle.emu_machine.specs.declared.one_action.OneAction.{OneAction}
