@@ -2,8 +2,6 @@
 use Rattle.std.proofs.Common.{◌≡◌, ℕ, zero, suc, ◌<◌, ◌≤◌, arith, Bool, true, false, [], ◌∷◌, refl, subst, sym, ap, if◌then◌else◌, slice_index_or}
 use Rattle.std.specs.Prelude.{◌==◌, ◌&&◌, nat_lt, Contains}
 use Rattle.std.proofs.lemmas.Bool.Decides.{nat_tests}
-use Rattle.id_arena.specs.declared.keys.NetId.{NetId}
-use Rattle.design_core.specs.declared.element.Driver.{Driver}
 use Rattle.design_core.specs.declared.element.Driver.TheVariants.{Constant}
 use Rattle.design_core.specs.declared.node.NodeId.{NodeId}
 use Rattle.design_core.specs.declared.node.NodeId.TheVariants.{Net, Write}
@@ -11,7 +9,7 @@ use Rattle.design_core.specs.declared.one_gate.OneGate.{OneGate}
 use Rattle.design_core.specs.Design.{net_count, driver}
 use Rattle.design_core.specs.Dependency.{dependencies}
 use Rattle.design_core.specs.Influence.{IsReached, seed, over}
-use Rattle.design_core.specs.OneGate.{net, one_gate_parts}
+use Rattle.design_core.specs.OneGate.{net}
 use Rattle.emu_machine.specs.declared.one_action.OneAction.{OneAction}
 use Rattle.emu_machine.specs.declared.place.Place.TheVariants.{Gate, Input}
 use Rattle.emu_machine.specs.Acceptance.{FailsA7, FailsA9}

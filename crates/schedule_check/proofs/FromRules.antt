@@ -1,9 +1,7 @@
 -- Where the twelve rules hold, the results are sound: each test that failed would break a rule.
-use Rattle.std.proofs.Common.{◌≡◌, ℕ, zero, suc, ◌<◌, ◌+◌, arith, Bool, true, false, not, List, [], ◌∷◌, refl, subst, sym, if◌then◌else◌}
+use Rattle.std.proofs.Common.{◌≡◌, ℕ, zero, suc, ◌<◌, arith, Bool, true, false, not, List, [], ◌∷◌, refl, subst, sym, if◌then◌else◌}
 use Rattle.std.specs.Prelude.{◌==◌, ◌&&◌, ◌||◌, nat_lt, nat_le, codes, bytes_eq}
-use Rattle.std.proofs.lemmas.Bool.Decides.{nat_tests}
 use Rattle.std.proofs.lemmas.Slice.Eq.{bytes_eq-Decides}
-use Rattle.id_arena.specs.declared.keys.NetId.{NetId}
 use Rattle.id_arena.specs.declared.keys.ChipNetId.{ChipNetId}
 use Rattle.design_core.specs.declared.operation.Op.TheVariants.{Buf, Not, Table}
 use Rattle.design_core.specs.declared.one_gate.OneGate.{OneGate}
@@ -17,11 +15,11 @@ use Rattle.emu_machine.specs.Netlist.{chip_at, IsOnCycle, next}
 use Rattle.emu_machine.specs.OneAction.{one_action_results, chip_net}
 use Rattle.emu_machine.specs.Origins.{same_bool, same_op, has_origin, origin_of, have_subjects}
 use Rattle.emu_machine.specs.Origins as origins
-use Rattle.emu_machine.specs.Acceptance.{Case, A2, A3, A4, A5, A7, A9, IsAccepted, FailsA3, FailsA9, chip_weight, is_hold, register_at}
+use Rattle.emu_machine.specs.Acceptance.{A2, A3, A4, A5, A7, A9, IsAccepted, FailsA9, chip_weight, is_hold, register_at}
 use Rattle.schedule_check.specs.OneGateCase.{one_gate_case, subject_of}
 use Rattle.schedule_check.proofs.Plain.{design, input_of, output_of, no, here, far_below}
 use Rattle.schedule_check.proofs.Reach.{parts}
-use Rattle.schedule_check.proofs.Sound.{IsSound, same_number, same_bools, left, right, differ}
+use Rattle.schedule_check.proofs.Sound.{IsSound, same_number, left, right}
 
 -- ## Tests that may not fail
 

@@ -1,9 +1,9 @@
 -- The plainest design has exactly one history: its input's value decides all its nets.
 use Rattle.std.proofs.Common.{◌≡◌, ◌∙◌, ℕ, zero, suc, ◌<◌, arith, Bool, true, false, List, [], ◌∷◌, refl, subst, sym, ap, if◌then◌else◌}
-use Rattle.std.specs.Prelude.{Some, slice_get, unwrap_or}
+use Rattle.std.specs.Prelude.{unwrap_or}
 use Rattle.design_core.specs.declared.operation.Op.TheVariants.{Buf, Not}
 use Rattle.design_core.specs.declared.element.Driver.{Driver}
-use Rattle.design_core.specs.declared.element.Driver.TheVariants.{Constant, Input, Elem, Read}
+use Rattle.design_core.specs.declared.element.Driver.TheVariants.{Constant, Input}
 use Rattle.design_core.specs.declared.element.Element.{Element}
 use Rattle.design_core.specs.declared.element.Element.TheVariants.{Gate}
 use Rattle.design_core.specs.declared.one_gate.OneGate.{OneGate}
@@ -13,7 +13,7 @@ use Rattle.design_core.specs.Design.{net_count, driver}
 use Rattle.design_core.specs.Valuation.{Valuation, IsAddress, SameValues}
 use Rattle.design_core.specs.Settled.{ConstantsHold, ReadsHold, ElementHolds, HasState, Opening, IsOpened}
 use Rattle.design_core.specs.Event.{given, ElementFollows, IsAfter, Follow, IsHistory, SameHistory, HasOneHistory}
-use Rattle.design_core.specs.OneGate.{net, gate_op, input_net, output_net}
+use Rattle.design_core.specs.OneGate.{net, gate_op}
 use Rattle.schedule_check.proofs.Plain.{design, input_of, output_of, no, only_at, is_none}
 use Rattle.schedule_check.proofs.Reach.{parts}
 

@@ -1,12 +1,11 @@
 -- The plainest cases that are accepted, by three choices: whether the input stands first in the header,
 -- whether the gate inverts, and whether the gate drives net 1 of the chip.
-use Rattle.std.proofs.Common.{◌≡◌, ℕ, zero, suc, ◌<◌, arith, Bool, true, false, not, T, List, [], ◌∷◌, length, refl, subst, sym, ap, if◌then◌else◌, slice_index_or}
-use Rattle.std.specs.Prelude.{◌==◌, ◌&&◌, nat_lt, codes, slice_get, Option, Some, None, Contains, is_some, unwrap_or}
+use Rattle.std.proofs.Common.{◌≡◌, ℕ, zero, suc, ◌<◌, arith, Bool, true, false, not, T, List, [], ◌∷◌, length, refl, subst, ap, if◌then◌else◌, slice_index_or}
+use Rattle.std.specs.Prelude.{◌==◌, ◌&&◌, nat_lt, codes, slice_get, Some, None, Contains, is_some, unwrap_or}
 use Rattle.std.proofs.lemmas.Bool.Decides.{nat_tests}
 use Rattle.design_core.specs.declared.node.NodeId.{NodeId}
 use Rattle.design_core.specs.declared.node.NodeId.TheVariants.{Net, Write}
 use Rattle.design_core.specs.declared.one_gate.OneGate.{OneGate}
-use Rattle.design_core.specs.OneGate.{input_net, output_net}
 use Rattle.emu_machine.specs.declared.one_action.OneAction.{OneAction}
 use Rattle.emu_machine.specs.Acceptance.{Case}
 use Rattle.schedule_check.specs.OneGateCase.{one_gate_case}

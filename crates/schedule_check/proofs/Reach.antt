@@ -1,5 +1,5 @@
 -- The group of all inputs of the plainest design reaches the two ports' nets and nothing else.
-use Rattle.std.proofs.Common.{◌≡◌, ℕ, zero, suc, ◌<◌, arith, Bool, true, false, List, [], refl, subst}
+use Rattle.std.proofs.Common.{◌≡◌, ℕ, zero, suc, arith, Bool, true, false, List, [], refl, subst}
 use Rattle.std.specs.Prelude.{◌==◌, Contains}
 use Rattle.id_arena.specs.declared.keys.NetId.{NetId}
 use Rattle.design_core.specs.declared.node.NodeId.{NodeId}
@@ -13,7 +13,7 @@ use Rattle.design_core.specs.Dependency.{dependencies, driver_needs}
 use Rattle.design_core.specs.Influence.{IsReached, seed, over, Group, IsInfluence}
 use Rattle.design_core.specs.OneGate.{one_gate_parts}
 use Rattle.emu_machine.specs.Acceptance.{Influences}
-use Rattle.schedule_check.proofs.Plain.{design, plain, is_port, inside, input_of, output_of, no, here, only_element, none_contained, only_at, is_none, far_left, far_right}
+use Rattle.schedule_check.proofs.Plain.{design, plain, is_port, inside, no, here, only_element, none_contained, only_at, is_none, far_left, far_right}
 
 abbrev pub parts : OneGate → Bool → Bool → Parts
 parts g first inverts = one_gate_parts (design g first inverts)

@@ -1,6 +1,6 @@
 -- What the judge's tests come to, as equations: the results are the plainest ones for the design.
-use Rattle.std.proofs.Common.{◌≡◌, ℕ, zero, suc, ◌<◌, arith, Bool, true, false, not, List, refl, subst, sym, if◌then◌else◌}
-use Rattle.std.specs.Prelude.{◌==◌, ◌&&◌, nat_lt, nat_le, codes, bytes_eq}
+use Rattle.std.proofs.Common.{◌≡◌, ℕ, ◌<◌, arith, Bool, true, false, not, List, refl, subst, sym, if◌then◌else◌}
+use Rattle.std.specs.Prelude.{◌==◌, ◌&&◌, nat_lt, nat_le, codes}
 use Rattle.std.proofs.lemmas.Bool.Decides.{nat_tests}
 use Rattle.std.proofs.lemmas.Slice.Eq.{bytes_eq-Decides}
 use Rattle.design_core.specs.declared.one_gate.OneGate.{OneGate}
@@ -8,8 +8,8 @@ use Rattle.design_core.specs.OneGate.{input_net, output_net}
 use Rattle.emu_machine.specs.declared.one_action.OneAction.{OneAction}
 use Rattle.emu_machine.specs.Origins.{same_bool}
 use Rattle.emu_machine.specs.Acceptance.{IsAccepted}
-use Rattle.schedule_check.specs.OneGateCase.{one_gate_case, subject_of, gate_fits, frame_fits, map_fits}
-use Rattle.schedule_check.proofs.Plain.{answer, plain, input_of, output_of, no}
+use Rattle.schedule_check.specs.OneGateCase.{one_gate_case, subject_of, gate_fits, frame_fits, map_fits, meets_tests}
+use Rattle.schedule_check.proofs.Plain.{answer, no}
 use Rattle.schedule_check.proofs.Rules.{accepted}
 
 pub record IsSound (g : OneGate) (room : ℕ) (r : OneAction) : Type 0 where
@@ -72,8 +72,8 @@ both false b h k = no h
 
 -- ## From the tests and to them
 
-pub from_tests : (g : OneGate) (room : ℕ) (r : OneAction) → gate_fits g room r ≡ true → frame_fits g r ≡ true → map_fits r ≡ true → IsSound g room r
-from_tests g room r gate frame shown =
+from_each : (g : OneGate) (room : ℕ) (r : OneAction) → gate_fits g room r ≡ true → frame_fits g r ≡ true → map_fits r ≡ true → IsSound g room r
+from_each g room r gate frame shown =
     record {
       reads = differ _ _ (left _ _ (left _ _ (left _ _ (left _ _ gate))));
       roomy = positive room (right _ _ (left _ _ (left _ _ (left _ _ gate))));
@@ -88,16 +88,22 @@ from_tests g room r gate frame shown =
       shows = sym (same_bools _ _ (right _ _ shown));
     }
 
-pub gate_sound : (g : OneGate) (room : ℕ) (r : OneAction) → IsSound g room r → gate_fits g room r ≡ true
+pub from_tests : (g : OneGate) (room : ℕ) (r : OneAction) → meets_tests g room r ≡ true → IsSound g room r
+from_tests g room r h = from_each g room r (left _ _ (left _ _ h)) (right _ _ (left _ _ h)) (right _ _ h)
+
+gate_sound : (g : OneGate) (room : ℕ) (r : OneAction) → IsSound g room r → gate_fits g room r ≡ true
 gate_sound g room r s =
     both _ _ (both _ _ (both _ _ (both _ _ (differing _ _ s.reads) (is_positive room s.roomy)) (bools_same _ _ s.inverts)) (number_same _ _ s.driven)) (number_same _ _ s.read)
 
-pub frame_sound : (g : OneGate) (room : ℕ) (r : OneAction) → IsSound g room r → frame_fits g r ≡ true
+frame_sound : (g : OneGate) (room : ℕ) (r : OneAction) → IsSound g room r → frame_fits g r ≡ true
 frame_sound g room r s =
     both _ _ (both _ _ (both _ _ ((bytes_eq-Decides r.group (codes "*")).1 s.group) (number_same _ _ s.chip)) (number_same _ _ s.register)) (number_same _ _ s.net)
 
-pub map_sound : (g : OneGate) (room : ℕ) (r : OneAction) → IsSound g room r → map_fits r ≡ true
+map_sound : (g : OneGate) (room : ℕ) (r : OneAction) → IsSound g room r → map_fits r ≡ true
 map_sound g room r s = both _ _ s.kept (bools_same _ _ (sym s.shows))
+
+pub sound_meets : (g : OneGate) (room : ℕ) (r : OneAction) → IsSound g room r → meets_tests g room r ≡ true
+sound_meets g room r s = both _ _ (both _ _ (gate_sound g room r s) (frame_sound g room r s)) (map_sound g room r s)
 
 -- ## Sound results are the plainest ones
 

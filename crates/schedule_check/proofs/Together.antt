@@ -1,13 +1,12 @@
 -- A machine with the plainest results runs together with the history of its design.
 use Rattle.std.proofs.Common.{◌≡◌, ◌∙◌, ℕ, zero, suc, ◌≤◌, arith, Bool, true, false, List, [], ◌∷◌, refl, subst, sym, ap, if◌then◌else◌}
-use Rattle.std.specs.Prelude.{◌==◌, ◌||◌, Option, Some, slice_get, Contains, unwrap_or, count_by}
+use Rattle.std.specs.Prelude.{Some, slice_get, count_by}
 use Rattle.id_arena.specs.declared.keys.NetId.{NetId}
 use Rattle.design_core.specs.declared.one_gate.OneGate.{OneGate}
-use Rattle.design_core.specs.declared.values.PortBit.{PortBit}
 use Rattle.design_core.specs.declared.values.Event.{Event}
 use Rattle.design_core.specs.Valuation.{Valuation}
 use Rattle.design_core.specs.Settled.{Opening, OpeningFits}
-use Rattle.design_core.specs.Event.{given, IsHistory, Follow}
+use Rattle.design_core.specs.Event.{IsHistory, Follow}
 use Rattle.design_core.specs.Influence.{Group, all_groups}
 use Rattle.design_core.specs.OneGate.{net}
 use Rattle.emu_machine.specs.declared.map.Spot.{Spot}
@@ -17,13 +16,12 @@ use Rattle.emu_machine.specs.declared.schedule.Slot.{Slot}
 use Rattle.emu_machine.specs.declared.one_action.OneAction.{OneAction}
 use Rattle.emu_machine.specs.OneAction.{one_action_results, chip_net}
 use Rattle.emu_machine.specs.State.{State, net_value, present, frame_slots, after_slots, after_frame}
-use Rattle.emu_machine.specs.Mapped.{subject, is_kept, memory_of, HoldsState, IsValueOf, IsLoaded}
-use Rattle.emu_machine.specs.Acceptance.{Case, IsAccepted}
-use Rattle.emu_machine.specs.Headline.{Headline, Agrees, EventsFit, EventFits, event_values, RunsTogether, IsSampled, SlotsAreSampled, ActionIsSampled, HasOneUse, sends_over}
+use Rattle.emu_machine.specs.Mapped.{subject, is_kept, memory_of, IsValueOf, IsLoaded}
+use Rattle.emu_machine.specs.Headline.{Headline, Agrees, EventsFit, EventFits, event_values, RunsTogether, SlotsAreSampled, ActionIsSampled, sends_over}
 use Rattle.schedule_check.specs.OneGateCase.{one_gate_case, AcceptedAgrees}
-use Rattle.schedule_check.proofs.Plain.{design, answer, plain, input_of, output_of, no, only_at, only_element, is_none}
+use Rattle.schedule_check.proofs.Plain.{answer, plain, input_of, output_of, no, only_at, only_element, is_none}
 use Rattle.schedule_check.proofs.Reach.{parts}
-use Rattle.schedule_check.proofs.Sound.{IsSound, same_number, plainest}
+use Rattle.schedule_check.proofs.Sound.{same_number, plainest}
 use Rattle.schedule_check.proofs.FromRules.{accepted_sound, or_false}
 use Rattle.schedule_check.proofs.Histories.{output, Shows, next_value, input_small, input_driven, opened_shows, after_shows, one_history}
 

@@ -1,5 +1,5 @@
 -- Small facts that show what the definitions say, each of which could be checked by hand.
-use Rattle.std.specs.Prelude.{◌≡◌, ◌≤◌, ◌<◌, ℕ, Bool, true, false, Some, None, [], ◌∷◌, codes, map}
+use Rattle.std.specs.Prelude.{◌≡◌, ◌≤◌, ◌<◌, ℕ, true, false, Some, None, [], ◌∷◌, codes, map}
 use Rattle.design_core.specs.declared.element.Element.TheVariants.{Flop}
 use Rattle.design_core.specs.declared.element.WritePort.{WritePort}
 use Rattle.design_core.specs.declared.node.NodeId.TheVariants.{Net}

@@ -1,6 +1,6 @@
 -- What the judge is asked about the plainest design and results, and what acceptance comes to there.
 -- The rules are told in docs/RULES.md, "Acceptance" and "The headline".
-use Rattle.std.specs.Prelude.{ℕ, ◌==◌, ◌&&◌, nat_lt, Bool, true, not, List, [], ◌∷◌, codes, bytes_eq, if◌then◌else◌}
+use Rattle.std.specs.Prelude.{ℕ, ◌==◌, ◌&&◌, nat_lt, Bool, not, [], ◌∷◌, codes, bytes_eq, if◌then◌else◌}
 use Rattle.design_core.specs.declared.one_gate.OneGate.{OneGate}
 use Rattle.design_core.specs.OneGate.{one_gate_parts, input_net, output_net}
 use Rattle.emu_machine.specs.declared.one_action.OneAction.{OneAction}
@@ -40,6 +40,10 @@ frame_fits g r =
 -- the register is kept, and the gate's net shows the output
 abbrev pub map_fits : OneAction → Bool
 map_fits r = r.kept && same_bool r.shows_second r.gate_drives_second
+
+-- the gate, the frame and the map fit
+abbrev pub meets_tests : OneGate → ℕ → OneAction → Bool
+meets_tests g room r = gate_fits g room r && frame_fits g r && map_fits r
 
 -- where the twelve rules hold, the machine agrees with the design, whatever the opening and the events
 abbrev pub AcceptedAgrees : Type 0

@@ -3,7 +3,7 @@
 ghost use Rattle.std.specs.Prelude.{◌↔◌, ◌<◌, ◌≡◌, IsTrue};
 ghost use Rattle.design_core.specs.OneGate.{input_net, output_net};
 ghost use Rattle.emu_machine.specs.Acceptance.{IsAccepted};
-ghost use Rattle.schedule_check.specs.OneGateCase.{AcceptedAgrees, frame_fits, gate_fits, map_fits, one_gate_case, subject_of};
+ghost use Rattle.schedule_check.specs.OneGateCase.{AcceptedAgrees, frame_fits, gate_fits, map_fits, meets_tests, one_gate_case, subject_of};
 
 use design_core::OneGate;
 use emu_machine::OneAction;
@@ -14,13 +14,20 @@ pub fn is_accepted(design: &OneGate, room: u64, slots: u32, results: &OneAction)
     requires { 0 < slots }
     ensures { IsTrue result ↔ IsAccepted (one_gate_case design.now room slots results.now) }
 {
-    is_gate_sound(design, room, results) && is_frame_sound(design, results) && is_map_sound(results)
+    meets_tests(design, room, results)
 }
 
 /// Acceptance gives the headline.
 pub fn accepted_agrees()
     ensures { AcceptedAgrees }
 {}
+
+/// The tests to which the rules come for such results.
+fn meets_tests(design: &OneGate, room: u64, results: &OneAction) -> bool
+    ensures { result ≡ meets_tests design.now room results.now }
+{
+    is_gate_sound(design, room, results) && is_frame_sound(design, results) && is_map_sound(results)
+}
 
 /// The net of the design's input: ports are numbered from 2 on in the order of the header.
 fn input_net(design: &OneGate) -> u32
