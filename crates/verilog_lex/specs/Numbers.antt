@@ -1,5 +1,5 @@
 -- Numbers and sized constants.
-use Rattle.std.specs.Prelude.{ℕ, ◌+◌, ◌-◌, ◌*◌, ◌%◌, ◌^◌, Bool, ◌==◌, ◌&&◌, ◌||◌, nat_lt, nat_le, List, take, drop, if◌then◌else◌, Option, Some, None, fold, slice_index}
+use Rattle.std.specs.Prelude.{ℕ, ◌+◌, ◌-◌, ◌*◌, ◌%◌, ◌^◌, Bool, ◌==◌, ◌&&◌, nat_lt, nat_le, List, take, drop, if◌then◌else◌, Option, Some, None, fold, slice_index, codes}
 use Rattle.std.specs.Option.{option_map_or}
 use Rattle.std.specs.Char.{is_ascii_digit}
 use Rattle.verilog_lex.specs.declared.bytes.Base.{Base}
@@ -9,7 +9,7 @@ use Rattle.verilog_lex.specs.declared.fault.Cause.TheVariants as cause
 use Rattle.verilog_lex.specs.declared.piece.Piece.{Piece}
 use Rattle.verilog_lex.specs.declared.piece.Piece.TheVariants.{Lexeme, Fault}
 use Rattle.verilog_lex.specs.declared.token.TokenKind.TheVariants as kind
-use Rattle.verilog_lex.specs.Bytes.{is_digit_of, run, first}
+use Rattle.verilog_lex.specs.Bytes.{apostrophe, underscore, is_one_of, is_digit_of, run, first}
 
 -- the number that a digit stands for: 0 to 9, and a to f in either case for 10 to 15
 abbrev pub digit_value : ℕ → ℕ
@@ -26,19 +26,19 @@ radix_of Hexadecimal = 16
 
 -- a value with one more digit behind it; an `_` stands for nothing
 abbrev pub add_digit : ℕ → ℕ → ℕ → ℕ
-add_digit radix value d = if d == 95 then value else value * radix + digit_value d
+add_digit radix value d = if d == underscore then value else value * radix + digit_value d
 
 -- the number that digits stand for
 abbrev pub value_of : ℕ → List ℕ → ℕ
 value_of radix digits = fold (add_digit radix) 0 digits
 
--- the base that the letter after the quote names
+-- the base that the letter after the apostrophe names, in either case
 abbrev pub base_of : ℕ → Option Base
 base_of letter =
-    if letter == 98 || letter == 66 then Some Binary
-    else (if letter == 111 || letter == 79 then Some Octal
-    else (if letter == 100 || letter == 68 then Some Decimal
-    else (if letter == 104 || letter == 72 then Some Hexadecimal
+    if is_one_of (codes "bB") letter then Some Binary
+    else (if is_one_of (codes "oO") letter then Some Octal
+    else (if is_one_of (codes "dD") letter then Some Decimal
+    else (if is_one_of (codes "hH") letter then Some Hexadecimal
     else None)))
 
 -- the digits of a constant begin with one of its base, its size is from 1 to 128, and its value is below 2^128
@@ -63,13 +63,13 @@ unfoldable pub constant_piece : List ℕ → ℕ → ℕ → Piece
 constant_piece text size letter =
     option_map_or (λ base. digits_piece text size base (letter + 1 + run class.White (drop (letter + 1) text))) (base_of (slice_index text letter)) (Fault cause.Number 0)
 
--- a number is the longest run of digits and `_`; it is at most 4294967295, and with a quote after it, and white space or
--- none between, it is the size of a constant
+-- a number is the longest run of digits and `_`; it is at most 4294967295, and with an apostrophe after it, and white
+-- space or none between, it is the size of a constant
 unfoldable pub number_piece : List ℕ → Piece
 number_piece text =
     let count = run class.Number text in
     let number = value_of 10 (take count text) in
     let quote = count + run class.White (drop count text) in
     if nat_lt 4294967295 number then Fault cause.Number 0
-    else (if slice_index text quote == 39 then constant_piece text number (quote + 1)
+    else (if slice_index text quote == apostrophe then constant_piece text number (quote + 1)
     else Lexeme (kind.Number number) 0 count)

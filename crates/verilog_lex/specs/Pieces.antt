@@ -2,7 +2,6 @@
 use Rattle.std.specs.Prelude.{ℕ, ◌+◌, ◌-◌, ◌<◌, ◌≤◌, Bool, true, false, ◌==◌, ◌&&◌, ◌||◌, nat_lt, List, length, take, drop, if◌then◌else◌, codes, bytes_eq}
 use Rattle.std.specs.Option.{option_map_or}
 use Rattle.std.specs.Char.{is_ascii_digit, is_ascii_alphabetic}
-use Rattle.std.specs.List.{list_any}
 use Rattle.verilog_lex.specs.declared.bytes.Class.TheVariants as class
 use Rattle.verilog_lex.specs.declared.fault.Cause.{Cause}
 use Rattle.verilog_lex.specs.declared.fault.Cause.TheVariants as cause
@@ -11,7 +10,7 @@ use Rattle.verilog_lex.specs.declared.fault.LexFault.TheVariants as lex
 use Rattle.verilog_lex.specs.declared.piece.Piece.{Piece}
 use Rattle.verilog_lex.specs.declared.piece.Piece.TheVariants.{Blank, Setting, Lexeme, Fault}
 use Rattle.verilog_lex.specs.declared.token.TokenKind.TheVariants as kind
-use Rattle.verilog_lex.specs.Bytes.{is_white, run, first, second}
+use Rattle.verilog_lex.specs.Bytes.{star, slash, backslash, opening, apostrophe, backquote, underscore, is_one_of, is_white, run, first, second}
 use Rattle.verilog_lex.specs.Blanks.{blank_len, after_blanks}
 use Rattle.verilog_lex.specs.Words.{word_kind}
 use Rattle.verilog_lex.specs.Numbers.{number_piece}
@@ -70,20 +69,20 @@ directive_piece text =
 
 -- the marks are `( ) [ ] { } , ; : = .`
 abbrev pub is_mark : ℕ → Bool
-is_mark b = list_any (λ m. b == m) (codes "()[]{},;:=.")
+is_mark b = is_one_of (codes "()[]{},;:=.") b
 
 -- what a text begins with that begins with no white space and with no whole comment or attribute, by its first byte: a
--- name, a number, an escaped name, a directive, a quote without a number, an open comment or attribute, a mark; no other
+-- name, a number, an escaped name, a directive, an apostrophe without a number, an open comment or attribute, a mark; no other
 -- byte begins anything
 unfoldable pub token_piece : List ℕ → Piece
 token_piece text =
-    if is_ascii_alphabetic (first text) || first text == 95 then word_piece text
+    if is_ascii_alphabetic (first text) || first text == underscore then word_piece text
     else (if is_ascii_digit (first text) then number_piece text
-    else (if first text == 92 then escaped_piece text
-    else (if first text == 96 then directive_piece text
-    else (if first text == 39 then Fault cause.Number 0
-    else (if first text == 47 && second text == 42 then Fault cause.Comment 0
-    else (if first text == 40 && second text == 42 then Fault cause.Attribute 0
+    else (if first text == backslash then escaped_piece text
+    else (if first text == backquote then directive_piece text
+    else (if first text == apostrophe then Fault cause.Number 0
+    else (if first text == slash && second text == star then Fault cause.Comment 0
+    else (if first text == opening && second text == star then Fault cause.Attribute 0
     else (if is_mark (first text) then Lexeme (kind.Mark (first text)) 0 1
     else Fault cause.Byte 0)))))))
 
