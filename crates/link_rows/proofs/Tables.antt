@@ -8,7 +8,7 @@ use Rattle.std.proofs.lemmas.List.{get_or-set_same, get_or-set_other, get_or-map
 use Rattle.std.proofs.Math.Seq.{get_or-append_right}
 use Rattle.std.proofs.lemmas.List.FromFn.{length-map-range_with_len, get_or-map-range_with_len}
 use Rattle.std.proofs.lemmas.Nat.Bits.{bit_at-zero}
-use Rattle.link_rows.specs.BitRows.{BitTable, bits_at, is_set, clear_table, widened, with_bit, IsFirstClear, IsEven}
+use Rattle.link_rows.specs.BitRows.{BitTable, bits_at, is_set, clear_table, widened, with_bit, IsFirstClear, IsRectangular}
 use Rattle.link_rows.specs.Words.{bit_in, bits_of, words_at, table_of, HasRoom, SameBits, IsFirstClearBelow}
 use Rattle.link_rows.proofs.Grown.{get_or-replicate_same}
 
@@ -26,8 +26,8 @@ module _ (width : ℕ) (rows : List (List ℕ)) where
   bits-row : (row : ℕ) → row < length rows → bits_at (table_of width rows) row ≡ bits_of width (words_at rows row)
   bits-row row within = get_or-map (bits_of width) rows row [] [] within
 
-  pub even-table : IsEven (table_of width rows)
-  even-table row within = ap length (bits-row row (omega (arith, rows-count))) ∙ length-bits_of width (words_at rows row)
+  pub rectangular-table : IsRectangular (table_of width rows)
+  rectangular-table row within = ap length (bits-row row (omega (arith, rows-count))) ∙ length-bits_of width (words_at rows row)
 
   pub is_set-table : (row at : ℕ) → row < length rows → at < width → is_set (bits_at (table_of width rows) row) at ≡ bit_in (words_at rows row) at
   is_set-table row at in_rows within = ap (λ bits. is_set bits at) (bits-row row in_rows) ∙ bit-below width (words_at rows row) at false within

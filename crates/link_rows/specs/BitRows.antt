@@ -38,5 +38,5 @@ IsFirstClear bits from None = (k : ℕ) → from ≤ k → k < length bits → i
 IsFirstClear bits from (Some at) = (from ≤ at) × (at < length bits) × (is_set bits at ≡ false) × ((k : ℕ) → from ≤ k → k < at → is_set bits k ≡ true)
 
 -- each row has as many bits as the table is wide
-abbrev pub IsEven : BitTable → Type 0
-IsEven table = (row : ℕ) → row < length table.rows → length (bits_at table row) ≡ table.width
+abbrev pub IsRectangular : BitTable → Type 0
+IsRectangular table = (row : ℕ) → row < length table.rows → length (bits_at table row) ≡ table.width

@@ -1,7 +1,6 @@
 //! The arrays in which the lists are linked.
-ghost use Rattle.std.specs.Prelude.{◌≡◌, ◌++◌, ◌≤◌, ◌<◌, ◌-◌, [], None, Some, length, slice_set, replicate, IsSome, IfSome, OnOk, OnErr};
+ghost use Rattle.std.specs.Prelude.{◌≡◌, ◌++◌, ◌<◌, ◌-◌, [], None, Some, length, slice_set, replicate, OnOk, OnErr};
 ghost use Rattle.link_rows.specs.Links.{link_of, first_at, loose, front_links, cut_firsts, cut_links, with_next, with_prev, IsWithin};
-ghost use Rattle.link_rows.specs.declared.arrays.Link.{Link};
 
 use emu_io::NoMemory;
 use std::alloc::Global;
@@ -37,8 +36,10 @@ impl Arrays {
     /// Makes the numbers of heads and items at least these; the new heads have no items, and the new
     /// items are in no list.
     pub(crate) fn grow(&mut self, heads: u32, items: u32) -> Result<(), NoMemory>
-        ensures firsts { OnOk result (self.new.firsts.items ≡ self.old.firsts.items ++ replicate (heads - length self.old.firsts.items) None) }
-        ensures links { OnOk result (self.new.links.items ≡ self.old.links.items ++ replicate (items - length self.old.links.items) loose) }
+        ensures firsts { let old = self.old.firsts.items in
+            OnOk result (self.new.firsts.items ≡ old ++ replicate (heads - length old) None) }
+        ensures links { let old = self.old.links.items in
+            OnOk result (self.new.links.items ≡ old ++ replicate (items - length old) loose) }
         ensures firsts_kept { OnErr result (self.new.firsts.items ≡ self.old.firsts.items) }
         ensures links_kept { OnErr result (self.new.links.items ≡ self.old.links.items) }
     {
@@ -62,7 +63,8 @@ impl Arrays {
         requires item { item < length self.old.links.items }
         requires first { IsWithin (first_at self.old.firsts.items head) (length self.old.links.items) }
         ensures firsts { self.new.firsts.items ≡ slice_set self.old.firsts.items head (Some item) }
-        ensures links { self.new.links.items ≡ front_links self.old.firsts.items self.old.links.items head item }
+        ensures links { self.new.links.items
+            ≡ front_links self.old.firsts.items self.old.links.items head item }
     {
         let next = self.firsts[head as usize];
         self.set_prev(next, Some(item));
@@ -80,7 +82,8 @@ impl Arrays {
         requires item { item < length self.old.links.items }
         requires next { IsWithin (link_of self.old.links.items item).next (length self.old.links.items) }
         requires prev { IsWithin (link_of self.old.links.items item).prev (length self.old.links.items) }
-        ensures firsts { let link = link_of self.old.links.items item in self.new.firsts.items ≡ cut_firsts self.old.firsts.items link.prev link.next head }
+        ensures firsts { let link = link_of self.old.links.items item in
+            self.new.firsts.items ≡ cut_firsts self.old.firsts.items link.prev link.next head }
         ensures links { self.new.links.items ≡ cut_links self.old.links.items item }
     {
         let Link { next, prev, .. } = self.links[item as usize];

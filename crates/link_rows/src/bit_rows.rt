@@ -1,6 +1,6 @@
 //! Rows of bits.
 ghost use Rattle.std.specs.Prelude.{◌≡◌, ◌<◌, ◌≤◌, length, IfOk, OnOk, OnErr};
-ghost use Rattle.link_rows.specs.BitRows.{bits_at, is_set, clear_table, widened, with_bit, IsFirstClear, IsEven};
+ghost use Rattle.link_rows.specs.BitRows.{bits_at, is_set, clear_table, widened, with_bit, IsFirstClear, IsRectangular};
 
 use crate::words::{clear_rows, first_clear, lengthen, put_bit, test_bit, word_count};
 use emu_io::NoMemory;
@@ -32,7 +32,7 @@ impl BitRows {
     /// So many rows of this width, with all bits clear.
     pub fn new(alloc: Global, rows: u32, width: u32) -> Result<BitRows, NoMemory>
         ensures clear { IfOk result (λ bits. bits ≡ clear_table rows width) }
-        ensures even { IfOk result IsEven }
+        ensures rectangular { IfOk result IsRectangular }
     {
         let rows = clear_rows(alloc, rows, word_count(width))?;
         Ok(BitRows { rows, width })
@@ -41,7 +41,7 @@ impl BitRows {
     /// The number of bits in each row.
     pub fn width(&self) -> u32
         ensures width { result ≡ self.now.width }
-        ensures even { IsEven self.now }
+        ensures rectangular { IsRectangular self.now }
     {
         self.width
     }
@@ -50,7 +50,7 @@ impl BitRows {
     pub fn widen(&mut self, width: u32) -> Result<(), NoMemory>
         ensures ok { OnOk result (self.new ≡ widened self.old width) }
         ensures err { OnErr result (self.new ≡ self.old) }
-        ensures even { IsEven self.new }
+        ensures rectangular { IsRectangular self.new }
     {
         lengthen(&mut self.rows, word_count(width))?;
         self.width = self.width.max(width);
@@ -62,7 +62,7 @@ impl BitRows {
         requires row { row < length self.old.rows }
         requires at { at < self.old.width }
         ensures bit { self.new ≡ with_bit self.old row at value }
-        ensures even { IsEven self.new }
+        ensures rectangular { IsRectangular self.new }
     {
         put_bit(&mut self.rows[row as usize], at, value);
     }

@@ -28,9 +28,13 @@ impl<H: Key, I: Key> Model for Rows<H, I> {
 
     ghost Value = { Linked };
 
-    ghost view = { λ rows. let arrays = rows.arrays in record { lists = lists_of arrays.firsts.items arrays.links.items; items = length arrays.links.items } };
+    ghost view = { λ rows. let arrays = rows.arrays in record {
+      lists = lists_of arrays.firsts.items arrays.links.items;
+      items = length arrays.links.items;
+    } };
 
-    ghost invariant = { λ rows. let arrays = rows.arrays in IsLinked arrays.firsts.items arrays.links.items (lists_of arrays.firsts.items arrays.links.items) };
+    ghost invariant = { λ rows. let arrays = rows.arrays in
+        IsLinked arrays.firsts.items arrays.links.items (lists_of arrays.firsts.items arrays.links.items) };
 }
 
 impl<H: Key, I: Key> Rows<H, I> {

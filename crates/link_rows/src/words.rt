@@ -94,7 +94,8 @@ pub(crate) fn lengthen(rows: &mut Vec<Vec<u64>>, count: usize) -> Result<(), NoM
 
 // Gives one row at least so many words.
 fn lengthen_row(words: &mut Vec<u64>, count: usize) -> Result<(), NoMemory>
-    ensures ok { OnOk result (words.new.items ≡ words.old.items ++ replicate (count - length words.old.items) 0) }
+    ensures ok { let old = words.old.items in
+        OnOk result (words.new.items ≡ old ++ replicate (count - length old) 0) }
     ensures err { OnErr result (words.new.items ≡ words.old.items) }
 {
     let more = count.saturating_sub(words.len());

@@ -1,7 +1,7 @@
 use Rattle.std.proofs.Common.{◌≡◌, ◌∙◌, ap, length, arith}
 use Rattle.std.specs.Vec.{with_items}
 use Rattle.link_rows.specs.Words.{bit_in}
-use Rattle.link_rows.proofs.Tables.{even-table, read-within, refilled, write-room, write-table}
+use Rattle.link_rows.proofs.Tables.{rectangular-table, read-within, refilled, write-room, write-table}
 use Rattle.link_rows.proofs.bit_rows.BitRows.set.Goals as goal
 
 pub put_bit-requires : goal.put_bit-requires
@@ -24,5 +24,5 @@ returns-clause-bit c =
     write-table (λ words. words.items) c.self.inside.width c.self.inside.rows.items c.args.self.now c.self.view_is c.self.invariant c.args.row c.index_mut.result.now c.deref_mut.result.now c.requires.row c.index_mut.ensures.value c.deref_mut.ensures.value
     c.args.at c.args.value (with_items c.index_mut.result.now c.put_bit.new.words) c.requires.at (ap length (words-are c) ∙ c.put_bit.auto.words) (λ k. ap (λ words. bit_in words k) (words-are c) ∙ c.put_bit.ensures k)
 
-pub returns-clause-even : goal.returns-clause-even
-returns-clause-even c = even-table c.self.inside.width _
+pub returns-clause-rectangular : goal.returns-clause-rectangular
+returns-clause-rectangular c = rectangular-table c.self.inside.width _

@@ -1,7 +1,7 @@
 use Rattle.std.proofs.Common.{◌≡◌, ◌∙◌, map, max, arith, ap, Ok, Err, OnErr, Result}
 use Rattle.link_rows.specs.BitRows.{widened}
 use Rattle.link_rows.specs.Words.{table_of}
-use Rattle.link_rows.proofs.Tables.{table-same, table-wider, even-table}
+use Rattle.link_rows.proofs.Tables.{table-same, table-wider, rectangular-table}
 use Rattle.link_rows.proofs.bit_rows.BitRows.widen.Goals as goal
 
 -- what holds anyway holds of a failure
@@ -13,8 +13,8 @@ pub returns-in_err-lengthen-clause-err : goal.returns-in_err-lengthen-clause-err
 returns-in_err-lengthen-clause-err c =
     on_err _ c.from_residual.result (table-same c.self.inside.width _ _ c.in_err-lengthen.ensures.same ∙ c.self.view_is)
 
-pub returns-in_err-lengthen-clause-even : goal.returns-in_err-lengthen-clause-even
-returns-in_err-lengthen-clause-even c = even-table c.self.inside.width _
+pub returns-in_err-lengthen-clause-rectangular : goal.returns-in_err-lengthen-clause-rectangular
+returns-in_err-lengthen-clause-rectangular c = rectangular-table c.self.inside.width _
 
 pub returns-clause-ok : goal.returns-clause-ok
 returns-clause-ok c =
@@ -24,5 +24,5 @@ returns-clause-ok c =
     ∙ table-wider c.self.inside.width c.args.width _ _ c.self.invariant c.in_ok-lengthen.ensures.same
     ∙ ap (λ table. widened table c.args.width) c.self.view_is
 
-pub returns-clause-even : goal.returns-clause-even
-returns-clause-even c = even-table c.max-self-inside.result _
+pub returns-clause-rectangular : goal.returns-clause-rectangular
+returns-clause-rectangular c = rectangular-table c.max-self-inside.result _
