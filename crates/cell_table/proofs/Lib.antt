@@ -3,3 +3,4 @@ pub mod PinsLemmas
 pub mod JudgeLemmas
 pub mod TableLemmas
 pub mod FaultLemmas
+pub mod SoundLemmas

@@ -5,3 +5,4 @@ pub mod Judge
 pub mod Build
 pub mod Faults
 pub mod Table
+pub mod Sound

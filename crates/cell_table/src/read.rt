@@ -5,6 +5,7 @@ ghost use Rattle.id_arena.specs.Arena.{item_limit};
 ghost use Rattle.id_arena.specs.Names.{place_among};
 ghost use Rattle.serde_json.specs.View.{view};
 ghost use Rattle.cell_table.specs.Faults.{Judges, cell_fault, cell_of, written_fault};
+ghost use Rattle.cell_table.specs.Sound.{IsSoundKind};
 ghost use Rattle.cell_table.specs.Table.{ListStands, Stands, ValueStands, names_of, version_of};
 
 use crate::build::cell_from;
@@ -99,6 +100,7 @@ fn keep(cells: &mut Arena<CellId, Cell>, names: &mut Names, cell: Cell) -> Resul
 fn judged_cell(alloc: Global, value: &Value, names: &Names) -> Result<Cell, CellFault>
     ensures judged { Judges (cell_fault names.now (view value.now)) result }
     ensures cell { IfOk result (λ cell. cell_of (view value.now) ≡ Some cell) }
+    ensures sound { IfOk result (λ cell. IsSoundKind cell.kind) }
     ensures new { IfOk result (λ cell. place_among names.now cell.name ≡ None) }
 {
     let cell = Some(names.len());

@@ -7,6 +7,8 @@ use id_arena::{Arena, CellId, Key, Names};
 use std::marker::Model;
 
 /// Cells in the order of their text, found by name.
+///
+/// Each cell is sound: its tables fit their inputs, and it is within the limits.
 #[derive(Drop)]
 pub struct CellTable {
     cells: Arena<CellId, Cell>,
@@ -16,17 +18,19 @@ pub struct CellTable {
 impl Model for CellTable {
     ghost use Rattle.std.specs.Prelude.{List, ◌≡◌};
     ghost use Rattle.cell_table.specs.declared.cell.Cell.{Cell};
+    ghost use Rattle.cell_table.specs.Sound.{AreSound};
     ghost use Rattle.cell_table.specs.Table.{names_of};
 
     ghost Value = { List Cell };
 
     ghost view = { λ table. table.cells };
 
-    ghost invariant = { λ table. table.names ≡ names_of table.cells };
+    ghost invariant = { λ table. (table.names ≡ names_of table.cells) × AreSound table.cells };
 }
 
 impl CellTable {
     ghost use Rattle.id_arena.specs.Names.{place_among};
+    ghost use Rattle.cell_table.specs.Sound.{AreSound, IsSoundKind};
     ghost use Rattle.cell_table.specs.Table.{names_of};
 
     /// The number of cells.
@@ -39,7 +43,8 @@ impl CellTable {
     /// The cell that a key of this table stands for.
     pub fn cell(&self, id: CellId) -> &Cell
         requires { id.place < length self.now }
-        ensures { slice_get self.now id.place ≡ Some result.now }
+        ensures cell { slice_get self.now id.place ≡ Some result.now }
+        ensures sound { IsSoundKind result.now.kind }
     {
         self.cells.get(id)
     }
@@ -57,7 +62,8 @@ impl CellTable {
 
     /// The table of cells whose names these are.
     pub(crate) fn from_parts(cells: Arena<CellId, Cell>, names: Names) -> CellTable
-        requires { names ≡ names_of cells }
+        requires named { names ≡ names_of cells }
+        requires sound { AreSound cells }
         ensures { result ≡ cells }
     {
         CellTable { cells, names }

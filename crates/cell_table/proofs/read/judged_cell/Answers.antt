@@ -1,7 +1,9 @@
 use Rattle.std.proofs.Common.{◌≡◌, None, sym, ap, ◌∙◌, refl}
 use Rattle.id_arena.specs.Names.{place_among}
+use Rattle.serde_json.specs.View.{view}
 use Rattle.cell_table.specs.Faults.{written_fault}
 use Rattle.cell_table.proofs.FaultLemmas.{sound_cell}
+use Rattle.cell_table.proofs.SoundLemmas.{sound_kind, written_addressed}
 use Rattle.cell_table.proofs.read.judged_cell.Goals as goal
 
 pub cell_from-requires-clause-sized : goal.cell_from-requires-clause-sized
@@ -18,3 +20,10 @@ pub returns-clause-new : goal.returns-clause-new
 returns-clause-new c =
     let none : written_fault c.args.names.now c.in-Ok.written ≡ None = sym c.in_ok-fault.ensures ∙ c.in_default.is in
     rw c.in_ok-cell_from.ensures (sound_cell c.args.names.now c.in-Ok.written none).2
+
+pub returns-clause-sound : goal.returns-clause-sound
+returns-clause-sound c =
+    let none : written_fault c.args.names.now c.in-Ok.written ≡ None = sym c.in_ok-fault.ensures ∙ c.in_default.is in
+    let tests = sound_cell c.args.names.now c.in-Ok.written none in
+    let at = written_addressed (view c.args.value.now) c.in-Ok.written c.in-Ok.ensures in
+    rw c.in_ok-cell_from.ensures (sound_kind c.in-Ok.written.kind at tests.0 tests.1)
