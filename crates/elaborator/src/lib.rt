@@ -10,3 +10,6 @@ mod one_gate_text;
 mod one_gate_words;
 
 pub use one_gate_text::{ElabFault, one_gate_texts_are_told_apart, read_one_gate};
+
+#[cfg(test)]
+mod tests;

@@ -23,3 +23,5 @@ pub use two_net_map::{TwoNetMap, read_two_net_map, two_net_maps_are_told_apart};
 
 #[cfg(test)]
 mod form_tests;
+#[cfg(test)]
+mod netlist_tests;

@@ -1,2 +1,3 @@
+pub mod Keyword
 pub mod Word
 pub mod Words

@@ -8,5 +8,6 @@ pub mod keyword;
 mod word;
 mod words;
 
+pub use keyword::keywords_are_named;
 pub use word::Word;
 pub use words::{are_words, is_word_at, name_at};
