@@ -2,3 +2,4 @@ pub mod NineWords
 pub mod Fetches
 pub mod Readings
 pub mod OneCases
+pub mod FirstUnread

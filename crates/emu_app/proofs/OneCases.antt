@@ -1,6 +1,8 @@
 -- That texts stand for one case at most, and what an accepted case prints.
-use Rattle.std.proofs.Common.{ℕ, ◌≡◌, ◌<◌, ◌++◌, List, [], ◌∷◌, refl, sym, ◌∙◌, ap, subst, absurd}
-use Rattle.std.specs.Prelude.{codes}
+use Rattle.std.proofs.Common.{ℕ, ◌≡◌, ◌<◌, ◌++◌, List, [], ◌∷◌, refl, sym, ◌∙◌, ap, subst}
+use Rattle.std.proofs.lemmas.List.{append_assoc, append-nil}
+use Rattle.std.specs.Fmt.{digits}
+use Rattle.std.specs.Prelude.{codes, decimal}
 use Rattle.verilog_lex.specs.declared.token.Token.{Token}
 use Rattle.verilog_lex.specs.Reads as reading
 use Rattle.design_core.specs.declared.one_gate.OneGate.{OneGate}
@@ -19,10 +21,10 @@ use Rattle.schedule_check.specs.OneGateCase.{one_gate_case}
 use Rattle.emu_app.specs.declared.what.What.TheVariants.{Design, Board, Netlist, Schedule, Map}
 use Rattle.emu_app.specs.Fetching.{Texts}
 use Rattle.emu_app.specs.Forms.{AreTokens, SaysDesign, SaysBoard, SaysNetlist}
-use Rattle.emu_app.specs.Reading.{Say, StandFor, results_of}
+use Rattle.emu_app.specs.Reading.{Say, StandFor, TextsTellCasesApart, results_of}
 use Rattle.emu_app.specs.Printing.{accepted_text, accepted_text_of}
 use Rattle.emu_app.specs.declared.check.OneCase.{OneCase}
-use Rattle.emu_app.specs.Cases.{case_of}
+use Rattle.emu_app.specs.Cases.{case_of, ReadsCase}
 use Rattle.emu_app.proofs.Readings.{tokens_once, one_plan, one_chip_plan}
 
 -- a text describes one design
@@ -76,3 +78,24 @@ one_case tokens designs-apart boards-law netlists-apart schedules-apart maps-apa
         ∙ ap (λ n. one_gate_case sc.gate sc.room n sd.results) slots
         ∙ ap (λ r. one_gate_case sc.gate sc.room sc.slots r) results
         ∙ sym sc.is
+
+-- the number of slots of one slot is written `1`
+one_slot : decimal 1 ≡ codes "1"
+unfolding digits
+one_slot = refl
+
+-- the frames of a case of one action print one line, of one slot
+pub prints_one : (c : OneCase) → accepted_text (case_of c).results.schedule.frames ≡ accepted_text_of c.results.group
+prints_one c =
+    let frame : List ℕ = codes "frame " ++ c.results.group in
+    let joined : frame ++ codes " " ++ codes "1" ≡ frame ++ codes " 1" = append_assoc frame (codes " ") (codes "1") in
+    let line : List ℕ → List ℕ = λ bytes. bytes ++ 10 ∷ [] in
+    ap (λ number. codes "accepted" ++ 10 ∷ [] ++ (line (frame ++ codes " " ++ number) ++ [])) one_slot
+        ∙ ap (λ rest. codes "accepted" ++ 10 ∷ [] ++ rest) (append-nil (line (frame ++ codes " " ++ codes "1")))
+        ∙ ap (λ bytes. codes "accepted" ++ 10 ∷ [] ++ line bytes) joined
+
+-- what the texts say makes a case, and no other
+pub reads_case : (top : List ℕ) (texts : Texts) (c : OneCase) → Say top texts c.design c.chip.room c.chip.slots c.results → 0 < c.chip.slots → TextsTellCasesApart → ReadsCase top texts c
+reads_case top texts c say some apart =
+    let stand : StandFor top texts (case_of c) = record { gate = c.design; room = c.chip.room; slots = c.chip.slots; results = c.results; say = say; is = refl } in
+    record { stand = record { stand = stand; one = λ other stands. apart top texts (case_of c) other stand stands }; some = some }

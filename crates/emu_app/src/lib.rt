@@ -1,4 +1,9 @@
 //! The command line of `emu`, over any texts and any sink.
+//!
+//! `run` takes the words of a command, fetches the texts that they name, does the command's work and
+//! prints one text. Its contract says for each status what was read and found: with status Ok of
+//! `check`, the texts stand for one design, board and results, the rules A1 to A12 hold for them, and
+//! the machine agrees with the design after every event, for every opening and every list of events.
 #![tactic(auto)]
 
 mod answer;
@@ -6,8 +11,9 @@ mod check;
 mod command;
 mod fetch;
 mod read;
-mod run;
 mod status;
+mod top;
 mod what;
 
 pub use status::Status;
+pub use top::run;
