@@ -1,15 +1,14 @@
 -- What follows of a fault, and of there being none.
-use Rattle.std.proofs.Common.{◌≡◌, ◌≤◌, ℕ, List, Bool, true, false, Option, Some, None, Result, Ok, Err, ap, sym, subst, refl, length, arith}
-use Rattle.std.specs.Prelude.{if◌then◌else◌, not, is_some, option_and_then, codes, nat_le}
+use Rattle.std.proofs.Common.{◌≡◌, ℕ, List, Bool, true, false, Option, Some, None, Result, Ok, Err, ap, sym, refl, length}
+use Rattle.std.specs.Prelude.{if◌then◌else◌, not, is_some, option_and_then, codes}
 use Rattle.id_arena.specs.Names.{place_among}
 use Rattle.serde_json.specs.Data.{Data}
-use Rattle.serde_json.specs.Find.{get, as_array}
-use Rattle.cell_table.specs.Members.{data_of, items_at}
-use Rattle.cell_table.specs.Faults.{written_fault, fault_beside, cell_fault}
+use Rattle.cell_table.specs.Members.{items_at}
+use Rattle.cell_table.specs.Faults.{written_fault, fault_beside}
 use Rattle.cell_table.specs.Judge.{tables_are_sized, is_within_limits}
 use Rattle.cell_table.specs.Kinds.{written_of}
 use Rattle.cell_table.specs.Pins.{has_twice, pins_of}
-use Rattle.cell_table.specs.Table.{version_of, HasItems, IsFirstFault, ListStands, ValueStands}
+use Rattle.cell_table.specs.Table.{version_of, IsFirstFault, ListStands, ValueStands}
 use Rattle.cell_table.specs.declared.cell.Cell.{Cell}
 use Rattle.cell_table.specs.declared.fault.CellFault.{CellFault}
 use Rattle.cell_table.specs.declared.fault.CellFault.TheVariants.{NotJson, Version, BadShape, PinTwice, TableSize, Limit, CellTwice, NoMemory}

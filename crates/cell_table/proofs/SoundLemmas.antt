@@ -1,5 +1,5 @@
 -- A cell that was read and judged is sound.
-use Rattle.std.proofs.Common.{◌≡◌, ◌==◌, ◌^◌, ◌+◌, ◌<◌, ◌≤◌, ℕ, zero, suc, List, [], ◌∷◌, ◌++◌, Bool, true, false, Option, Some, None, ap, sym, subst, refl, map, length, get_or, arith}
+use Rattle.std.proofs.Common.{◌≡◌, ◌==◌, ◌^◌, ◌+◌, ◌<◌, ◌≤◌, ℕ, zero, suc, List, [], ◌∷◌, ◌++◌, Bool, true, false, Option, Some, None, subst, refl, map, length, get_or, arith}
 use Rattle.std.specs.Prelude.{◌&&◌, slice_get, nat_le, is_none, is_some, option_map, codes, bytes_eq, if◌then◌else◌}
 use Rattle.std.specs.List.{All}
 use Rattle.std.proofs.lemmas.Bool.Decides.{nat_tests}
@@ -7,7 +7,7 @@ use Rattle.std.proofs.lemmas.List.Elements.{All-append}
 use Rattle.std.proofs.lemmas.Option.{option_and_then_some, slice_get_within, get_or_from_slice_get}
 use Rattle.serde_json.specs.Data.{Data}
 use Rattle.serde_json.specs.Find.{get, as_str}
-use Rattle.cell_table.specs.Build.{number_of, comb_out_of, feed_pin_of, cell_kind_of, built_of}
+use Rattle.cell_table.specs.Build.{number_of, comb_out_of, feed_pin_of, cell_kind_of}
 use Rattle.cell_table.specs.Judge.{is_sized, outs_are_sized, feed_is_sized, feed_is_within, tables_are_sized, is_within_limits}
 use Rattle.cell_table.specs.Kinds.{address_of, comb_of, flop_of, gate_clock_of, latch_of, memory_of, named_kind_of, outs_at, names_at, read_of, reads_at, state_of, write_of, writes_at, written_of}
 use Rattle.cell_table.specs.Members.{all_of, edge_pin_at, items_at, level_pin_at, name_at, number_at, optional_level_pin_at, optional_name_at}

@@ -1,5 +1,5 @@
 -- The fault of a cell, beside the cells before it.
-use Rattle.std.specs.Prelude.{◌≡◌, ℕ, List, length, not, Bool, Option, Some, None, Result, Ok, Err, is_some, option_map, if◌then◌else◌}
+use Rattle.std.specs.Prelude.{◌≡◌, ℕ, List, length, not, Option, Some, None, Result, Ok, Err, is_some, option_map, if◌then◌else◌}
 use Rattle.id_arena.specs.Names.{place_among}
 use Rattle.serde_json.specs.Data.{Data}
 use Rattle.cell_table.specs.Build.{built_of}

@@ -2,7 +2,7 @@
 -- members, and gives None where one of them is missing or of bad shape. Nothing is judged here
 -- but the shape: how long a table is, how many pins there are and whether a pin stands twice come
 -- later.
-use Rattle.std.specs.Prelude.{◌==◌, ℕ, List, length, codes, Bool, true, false, Option, Some, None, is_some, option_map, option_and_then, if◌then◌else◌, bytes_eq}
+use Rattle.std.specs.Prelude.{◌==◌, ℕ, List, length, codes, Option, Some, None, is_some, option_map, if◌then◌else◌, bytes_eq}
 use Rattle.serde_json.specs.Data.{Data}
 use Rattle.serde_json.specs.Find.{get, as_str}
 use Rattle.cell_table.specs.Members.{◌>>=◌, all_of, name_of, name_at, number_at, items_at, table_at, edge_pin_at, level_pin_at, optional_name_at, optional_level_pin_at}

@@ -1,7 +1,7 @@
 -- What the members of a JSON object say. Each definition gives the value that a member stands for,
 -- or None where the member is missing or of bad shape. Members that no definition asks for are
 -- ignored.
-use Rattle.std.specs.Prelude.{◌==◌, ◌^◌, ◌-◌, ◌≡◌, ℕ, List, [], ◌∷◌, length, map, codes, Bool, true, false, Option, Some, None, is_some, option_map, option_and_then, Result, Ok, Err, nat_le, if◌then◌else◌, bytes_eq}
+use Rattle.std.specs.Prelude.{◌==◌, ◌≡◌, ℕ, List, [], ◌∷◌, length, map, codes, Bool, true, false, Option, Some, None, option_map, option_and_then, Result, Ok, Err, nat_le, if◌then◌else◌, bytes_eq}
 use Rattle.serde_json.specs.Data.{Data, Items, no_items, item}
 use Rattle.serde_json.specs.Find.{get, as_str, as_number, as_u64, as_array}
 use Rattle.serde_json.specs.View.{view}

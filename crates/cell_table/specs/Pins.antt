@@ -1,5 +1,5 @@
 -- The pins that a cell names, and whether one of them stands twice.
-use Rattle.std.specs.Prelude.{ℕ, List, [], ◌∷◌, ◌++◌, ◌||◌, Bool, false, not, map, filter, flat_map, Option, Some, None, bytes_eq}
+use Rattle.std.specs.Prelude.{ℕ, List, [], ◌∷◌, ◌++◌, ◌||◌, Bool, false, not, filter, flat_map, Option, Some, None, bytes_eq}
 use Rattle.std.specs.List.{list_any}
 use Rattle.cell_table.specs.declared.cell.CellRead.{CellRead}
 use Rattle.cell_table.specs.declared.cell.CellWrite.{CellWrite}

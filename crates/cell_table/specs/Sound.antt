@@ -6,7 +6,6 @@ use Rattle.cell_table.specs.declared.cell.CellKind.{CellKind}
 use Rattle.cell_table.specs.declared.cell.CellKind.TheVariants.{Comb, Flop, Latch, GateClock, Memory}
 use Rattle.cell_table.specs.declared.cell.CellRead.{CellRead}
 use Rattle.cell_table.specs.declared.cell.CellWrite.{CellWrite}
-use Rattle.cell_table.specs.declared.cell.CombOut.{CombOut}
 use Rattle.cell_table.specs.declared.cell.FeedPin.{FeedPin}
 use Rattle.cell_table.specs.declared.cell.FeedPin.TheVariants.{Pin, Table}
 

@@ -1,5 +1,5 @@
 -- The table that a text stands for, or why it stands for none.
-use Rattle.std.specs.Prelude.{◌≡◌, ℕ, List, length, map, take, slice_get, codes, Option, Some, None, Result, Ok, Err, option_and_then}
+use Rattle.std.specs.Prelude.{◌≡◌, ℕ, List, length, map, take, slice_get, codes, Option, Some, None, Result, Ok, Err}
 use Rattle.std.specs.Str.{IsUtf8}
 use Rattle.serde_json.specs.Data.{Data}
 use Rattle.serde_json.specs.Find.{get, as_number, as_u64}

@@ -1,4 +1,4 @@
-use Rattle.std.proofs.Common.{◌≡◌, ◌<◌, length, get_or, arith}
+use Rattle.std.proofs.Common.{arith}
 use Rattle.cell_table.proofs.JudgeLemmas.{output_is_short}
 use Rattle.cell_table.proofs.build.comb_outs_from.Goals as goal
 

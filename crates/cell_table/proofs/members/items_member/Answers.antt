@@ -1,4 +1,4 @@
-use Rattle.std.proofs.Common.{◌≡◌, ◌≤◌, ◌<◌, sym, ap, rules, arith, map, length, vec_len}
+use Rattle.std.proofs.Common.{sym, arith, map}
 use Rattle.std.proofs.lemmas.List.{length-map}
 use Rattle.serde_json.specs.View.{view}
 use Rattle.cell_table.proofs.MembersLemmas.{items_at-short, items_at-long}

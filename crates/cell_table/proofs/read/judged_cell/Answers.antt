@@ -1,5 +1,4 @@
-use Rattle.std.proofs.Common.{◌≡◌, None, sym, ap, ◌∙◌, refl}
-use Rattle.id_arena.specs.Names.{place_among}
+use Rattle.std.proofs.Common.{◌≡◌, None, sym, ◌∙◌}
 use Rattle.serde_json.specs.View.{view}
 use Rattle.cell_table.specs.Faults.{written_fault}
 use Rattle.cell_table.proofs.FaultLemmas.{sound_cell}

@@ -1,5 +1,4 @@
 use Rattle.std.proofs.Common.{◌≡◌, ◌++◌, drop}
-use Rattle.std.specs.Prelude.{flat_map}
 use Rattle.cell_table.proofs.pins.Pins.add_all.Given as goal
 
 abbrev pub invariant-loop-pin : goal.invariant-loop-pin

@@ -1,4 +1,3 @@
-use Rattle.std.proofs.Common.{◌≡◌, sym, ap, subst}
 use Rattle.cell_table.proofs.SoundLemmas.{AreSound-at}
 use Rattle.cell_table.proofs.table.CellTable.cell.Goals as goal
 

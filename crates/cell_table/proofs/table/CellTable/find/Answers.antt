@@ -1,4 +1,4 @@
-use Rattle.std.proofs.Common.{◌≡◌, List, ℕ, Some, None, sym, ap, ◌∙◌, refl}
+use Rattle.std.proofs.Common.{◌≡◌, Some, None, sym, ap, ◌∙◌, refl}
 use Rattle.id_arena.specs.Names.{place_among}
 use Rattle.std.specs.Prelude.{slice_get}
 use Rattle.cell_table.specs.Table.{names_of}
