@@ -38,13 +38,13 @@ texts_at texts what within = rw (slice_get-get_or texts (order what) [] within) 
 texts_stay : (texts : List (List ℕ)) (bytes : List ℕ) (what : What) → order what < length texts → texts_of (texts ++ bytes ∷ []) what ≡ texts_of texts what
 texts_stay texts bytes what within =
     texts_at (texts ++ bytes ∷ []) what (rw (length-append texts (bytes ∷ [])) (omega arith))
-        ∙ get_or-append texts (bytes ∷ []) [] (order what) within ∙ sym (texts_at texts what within)
+    ∙ get_or-append texts (bytes ∷ []) [] (order what) within ∙ sym (texts_at texts what within)
 
 -- the one pushed last is the text of that place
 texts_last : (texts : List (List ℕ)) (bytes : List ℕ) (what : What) → length texts ≡ order what → texts_of (texts ++ bytes ∷ []) what ≡ bytes
 texts_last texts bytes what here =
     texts_at (texts ++ bytes ∷ []) what (rw (length-append texts (bytes ∷ [])) (omega arith))
-        ∙ subst (λ k. get_or (texts ++ bytes ∷ []) k [] ≡ bytes) here (get_or-append_seam texts bytes [] [])
+    ∙ subst (λ k. get_or (texts ++ bytes ∷ []) k [] ≡ bytes) here (get_or-append_seam texts bytes [] [])
 
 -- the text at its own place of the order is itself
 what_at_order : (what : What) → what_at (order what) ≡ what
@@ -62,17 +62,17 @@ first_more : (held : Held) (n : CheckWords) (place : ℕ) (texts : List (List �
     → FirstAreHeld held n place texts → IsHeld held (name_of n what) what bytes
     → FirstAreHeld held n (place + 1) (texts ++ bytes ∷ [])
 first_more held n place texts bytes what count is first new other below =
-    elim (cases_eq (order other) place)
-        [ inl same ↦
-            let it : other ≡ what = sym (what_at_order other) ∙ ap what_at same ∙ sym is in
-            let last : texts_of (texts ++ bytes ∷ []) other ≡ bytes = texts_last texts bytes other (count ∙ sym same) in
-            subst (λ b. IsHeld held (name_of n other) other b) (sym last)
-                (subst (λ w. IsHeld held (name_of n w) w bytes) (sym it) new)
-        | inr differs ↦
-            let within : order other < length texts = omega (arith, count, below, differs) in
-            subst (λ b. IsHeld held (name_of n other) other b) (sym (texts_stay texts bytes other within))
-                (first other (omega (arith, below, differs)))
-        ]
+    elim (cases_eq (order other) place) [
+      | inl same ↦
+          let it : other ≡ what = sym (what_at_order other) ∙ ap what_at same ∙ sym is in
+          let last : texts_of (texts ++ bytes ∷ []) other ≡ bytes = texts_last texts bytes other (count ∙ sym same) in
+          subst (λ b. IsHeld held (name_of n other) other b) (sym last)
+          (subst (λ w. IsHeld held (name_of n w) w bytes) (sym it) new)
+      | inr differs ↦
+          let within : order other < length texts = omega (arith, count, below, differs) in
+          subst (λ b. IsHeld held (name_of n other) other b) (sym (texts_stay texts bytes other within))
+          (first other (omega (arith, below, differs)))
+    ]
 
 -- with the text of the next place, one more is within its limit
 within_more : (place : ℕ) (texts : List (List ℕ)) (bytes : List ℕ) (what : What)
@@ -80,16 +80,16 @@ within_more : (place : ℕ) (texts : List (List ℕ)) (bytes : List ℕ) (what :
     → FirstAreWithin place texts → length bytes ≤ limit what
     → FirstAreWithin (place + 1) (texts ++ bytes ∷ [])
 within_more place texts bytes what count is first new other below =
-    elim (cases_eq (order other) place)
-        [ inl same ↦
-            let it : other ≡ what = sym (what_at_order other) ∙ ap what_at same ∙ sym is in
-            let last : texts_of (texts ++ bytes ∷ []) other ≡ bytes = texts_last texts bytes other (count ∙ sym same) in
-            subst (λ b. length b ≤ limit other) (sym last) (subst (λ w. length bytes ≤ limit w) (sym it) new)
-        | inr differs ↦
-            let within : order other < length texts = omega (arith, count, below, differs) in
-            subst (λ b. length b ≤ limit other) (sym (texts_stay texts bytes other within))
-                (first other (omega (arith, below, differs)))
-        ]
+    elim (cases_eq (order other) place) [
+      | inl same ↦
+          let it : other ≡ what = sym (what_at_order other) ∙ ap what_at same ∙ sym is in
+          let last : texts_of (texts ++ bytes ∷ []) other ≡ bytes = texts_last texts bytes other (count ∙ sym same) in
+          subst (λ b. length b ≤ limit other) (sym last) (subst (λ w. length bytes ≤ limit w) (sym it) new)
+      | inr differs ↦
+          let within : order other < length texts = omega (arith, count, below, differs) in
+          subst (λ b. length b ≤ limit other) (sym (texts_stay texts bytes other within))
+          (first other (omega (arith, below, differs)))
+    ]
 
 -- the fetch of the next text keeps what holds
 pub one_more : (told told-mid told-old : Option Held) (now mid before stores stores-mid stores-old : ℕ) (n : CheckWords) (place : ℕ) (texts texts-new : List (List ℕ)) (pushed bytes name : List ℕ) (what : What)
@@ -103,16 +103,16 @@ pub one_more : (told told-mid told-old : Option Held) (now mid before stores sto
 one_more told told-mid told-old now mid before stores stores-mid stores-old n place texts texts-new pushed bytes name what so is new same named means bounded later held_same stores_same =
     let all : texts-new ≡ texts ++ bytes ∷ [] = subst (λ b. texts-new ≡ texts ++ b ∷ []) same new in
     let it : IfSome told-mid (λ held. IsHeld held (name_of n what) what bytes) = subst (λ w. IfSome told-mid (λ held. IsHeld held w what bytes)) named means in
-    record
-    { count = rw all (length-append texts (bytes ∷ []) ∙ ap (λ k. k + 1) so.count)
-    ; held = subst (λ ts. IfSome told-old (λ held. FirstAreHeld held n (place + 1) ts)) (sym all)
-        (go told-old so.held (subst (λ t. IfSome t (λ held. IsHeld held (name_of n what) what bytes)) so.held_same it))
-    ; within = subst (λ ts. FirstAreWithin (place + 1) ts) (sym all) (within_more place texts bytes what so.count is so.within bounded)
-    ; later = omega (arith, so.later, later)
-    ; held_same = held_same ∙ so.held_same
-    ; stores_same = stores_same ∙ so.stores_same
+    record {
+      count = rw all (length-append texts (bytes ∷ []) ∙ ap (λ k. k + 1) so.count);
+      held = subst (λ ts. IfSome told-old (λ held. FirstAreHeld held n (place + 1) ts)) (sym all)
+          (go told-old so.held (subst (λ t. IfSome t (λ held. IsHeld held (name_of n what) what bytes)) so.held_same it));
+      within = subst (λ ts. FirstAreWithin (place + 1) ts) (sym all) (within_more place texts bytes what so.count is so.within bounded);
+      later = omega (arith, so.later, later);
+      held_same = held_same ∙ so.held_same;
+      stores_same = stores_same ∙ so.stores_same;
     }
   where
-  go : (t : Option Held) → IfSome t (λ held. FirstAreHeld held n place texts) → IfSome t (λ held. IsHeld held (name_of n what) what bytes) → IfSome t (λ held. FirstAreHeld held n (place + 1) (texts ++ bytes ∷ []))
-  go None first last = tt
-  go (Some held) first last = first_more held n place texts bytes what so.count is first last
+    go : (t : Option Held) → IfSome t (λ held. FirstAreHeld held n place texts) → IfSome t (λ held. IsHeld held (name_of n what) what bytes) → IfSome t (λ held. FirstAreHeld held n (place + 1) (texts ++ bytes ∷ []))
+    go None first last = tt
+    go (Some held) first last = first_more held n place texts bytes what so.count is first last

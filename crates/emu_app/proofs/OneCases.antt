@@ -59,10 +59,10 @@ same_results tokens netlists-apart schedules-apart maps-apart top texts g h room
     let s : say-a.schedule ≡ say-b.schedule = schedules-apart (texts Schedule) say-a.schedule say-b.schedule say-a.says_schedule say-b.says_schedule in
     let m : say-a.map ≡ say-b.map = maps-apart (texts Map) say-a.map say-b.map say-a.says_map say-b.says_map in
     say-a.is
-        ∙ ap (λ x. results_of x say-a.schedule say-a.map) n
-        ∙ ap (λ x. results_of say-b.netlist x say-a.map) s
-        ∙ ap (λ x. results_of say-b.netlist say-b.schedule x) m
-        ∙ sym say-b.is
+    ∙ ap (λ x. results_of x say-a.schedule say-a.map) n
+    ∙ ap (λ x. results_of say-b.netlist x say-a.map) s
+    ∙ ap (λ x. results_of say-b.netlist say-b.schedule x) m
+    ∙ sym say-b.is
 
 -- texts stand for one case at most
 pub one_case : reading.EachTextHasOneAnswer → designs.TextsTellDesignsApart → boards.EachTextHasOneAnswer → netlists.TextsTellNetlistsApart → schedules.TextsTellSchedulesApart → maps.TextsTellMapsApart
@@ -73,11 +73,11 @@ one_case tokens designs-apart boards-law netlists-apart schedules-apart maps-apa
     let slots : sd.slots ≡ sc.slots = same_slots boards-law (texts Board) sd.room sd.slots sc.room sc.slots sd.say.says_board sc.say.says_board in
     let results : sd.results ≡ sc.results = same_results tokens netlists-apart schedules-apart maps-apart top texts sd.gate sc.gate sd.room sd.slots sc.room sc.slots sd.results sc.results sd.say sc.say in
     sd.is
-        ∙ ap (λ g. one_gate_case g sd.room sd.slots sd.results) gate
-        ∙ ap (λ n. one_gate_case sc.gate n sd.slots sd.results) room
-        ∙ ap (λ n. one_gate_case sc.gate sc.room n sd.results) slots
-        ∙ ap (λ r. one_gate_case sc.gate sc.room sc.slots r) results
-        ∙ sym sc.is
+    ∙ ap (λ g. one_gate_case g sd.room sd.slots sd.results) gate
+    ∙ ap (λ n. one_gate_case sc.gate n sd.slots sd.results) room
+    ∙ ap (λ n. one_gate_case sc.gate sc.room n sd.results) slots
+    ∙ ap (λ r. one_gate_case sc.gate sc.room sc.slots r) results
+    ∙ sym sc.is
 
 -- the number of slots of one slot is written `1`
 one_slot : decimal 1 ≡ codes "1"
@@ -91,8 +91,8 @@ prints_one c =
     let joined : frame ++ codes " " ++ codes "1" ≡ frame ++ codes " 1" = append_assoc frame (codes " ") (codes "1") in
     let line : List ℕ → List ℕ = λ bytes. bytes ++ 10 ∷ [] in
     ap (λ number. codes "accepted" ++ 10 ∷ [] ++ (line (frame ++ codes " " ++ number) ++ [])) one_slot
-        ∙ ap (λ rest. codes "accepted" ++ 10 ∷ [] ++ rest) (append-nil (line (frame ++ codes " " ++ codes "1")))
-        ∙ ap (λ bytes. codes "accepted" ++ 10 ∷ [] ++ line bytes) joined
+    ∙ ap (λ rest. codes "accepted" ++ 10 ∷ [] ++ rest) (append-nil (line (frame ++ codes " " ++ codes "1")))
+    ∙ ap (λ bytes. codes "accepted" ++ 10 ∷ [] ++ line bytes) joined
 
 -- what the texts say makes a case, and no other
 pub reads_case : (top : List ℕ) (texts : Texts) (c : OneCase) → Say top texts c.design c.chip.room c.chip.slots c.results → 0 < c.chip.slots → TextsTellCasesApart → ReadsCase top texts c

@@ -81,8 +81,8 @@ pub is_one_chip : (plan : BoardPlan) (room slots : ℕ) → length plan.rooms �
 is_one_chip plan room slots one none here same =
     let plan_of : List ℕ → List Wire → ℕ → BoardPlan = λ rooms wires most. record { rooms = rooms; wires = wires; slots = most } in
     ap (λ rooms. plan_of rooms plan.wires plan.slots) (only_room plan.rooms room one here)
-        ∙ ap (λ wires. plan_of (room ∷ []) wires plan.slots) (no_wire plan.wires none)
-        ∙ ap (λ most. plan_of (room ∷ []) [] most) (sym same)
+    ∙ ap (λ wires. plan_of (room ∷ []) wires plan.slots) (no_wire plan.wires none)
+    ∙ ap (λ most. plan_of (room ∷ []) [] most) (sym same)
 
 -- a text stands for one board
 pub one_plan : boards.EachTextHasOneAnswer → (text : List ℕ) (a b : BoardPlan) → boards.StandsFor text a → boards.StandsFor text b → a ≡ b
@@ -119,8 +119,8 @@ pub found_tokens : (text : List ℕ) (found : Option (List Token)) (tokens : Lis
     → AreTokens text tokens × Alone text tokens
 found_tokens text None tokens is means = absurd (some_none tokens is)
   where
-  some_none : (ts : List Token) → None ≡ Some ts → ⊥
-  some_none ts e = cc
+    some_none : (ts : List Token) → None ≡ Some ts → ⊥
+    some_none ts e = cc
 found_tokens text (Some others) tokens is means =
     let same : others ≡ tokens = cc in
     subst (λ ts. AreTokens text ts × Alone text ts) same means

@@ -29,7 +29,7 @@ name_of n Map = n.map
 abbrev pub IsCheck : List (List ℕ) → CheckWords → Type 0
 IsCheck words n =
     words
-        ≡ codes "check" ∷ n.top ∷ n.design ∷ n.cells ∷ n.groups ∷ n.board ∷ n.netlist ∷ n.schedule ∷ n.map ∷ []
+    ≡ codes "check" ∷ n.top ∷ n.design ∷ n.cells ∷ n.groups ∷ n.board ∷ n.netlist ∷ n.schedule ∷ n.map ∷ []
 
 -- the words are those of no command that is built so far
 abbrev pub IsNoCommand : List (List ℕ) → Type 0
@@ -38,13 +38,13 @@ IsNoCommand words = (n : CheckWords) → IsCheck words n → ⊥
 -- the words that names stand for
 abbrev pub words_of : CheckNames → CheckWords
 words_of n =
-    record
-    { top = n.top.now
-    ; design = n.design.now
-    ; cells = n.cells.now
-    ; groups = n.groups.now
-    ; board = n.board.now
-    ; netlist = n.netlist.now
-    ; schedule = n.schedule.now
-    ; map = n.map.now
+    record {
+      top = n.top.now;
+      design = n.design.now;
+      cells = n.cells.now;
+      groups = n.groups.now;
+      board = n.board.now;
+      netlist = n.netlist.now;
+      schedule = n.schedule.now;
+      map = n.map.now;
     }

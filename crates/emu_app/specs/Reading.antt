@@ -20,18 +20,18 @@ use Rattle.emu_app.specs.Forms.{SaysDesign, SaysBoard, SaysNetlist}
 -- the results that a netlist, a schedule and a map make together
 abbrev pub results_of : OneGateNetlist → OneActionSchedule → TwoNetMap → OneAction
 results_of netlist schedule map =
-    record
-    { inverts = netlist.inverts
-    ; gate_drives_second = netlist.gate_drives_second
-    ; gate_reads_second = netlist.gate_reads_second
-    ; group = schedule.group
-    ; chip = schedule.chip
-    ; register = schedule.register
-    ; net = schedule.net
-    ; first_subject = map.first_subject
-    ; second_subject = map.second_subject
-    ; kept = map.kept
-    ; shows_second = map.shows_second
+    record {
+      inverts = netlist.inverts;
+      gate_drives_second = netlist.gate_drives_second;
+      gate_reads_second = netlist.gate_reads_second;
+      group = schedule.group;
+      chip = schedule.chip;
+      register = schedule.register;
+      net = schedule.net;
+      first_subject = map.first_subject;
+      second_subject = map.second_subject;
+      kept = map.kept;
+      shows_second = map.shows_second;
     }
 
 -- the texts, with this name for the top, say this design, this board and these results, and no groups

@@ -44,7 +44,12 @@ impl Answer {
         ensures { IfOk result (λ text. text.items ≡ text_of self.now) }
     {
         match self {
-            Answer::Usage => line(alloc, b"usage: emu check|compile|make|replay|settle", b"", b""),
+            Answer::Usage => line(
+                alloc,
+                b"usage: emu check|compile|make|replay|settle",
+                b"",
+                b"",
+            ),
             Answer::Accepted { group } => accepted_text(alloc, group.bytes()),
             Answer::Rejected => line(alloc, b"rejected", b"", b""),
             Answer::TooLarge(what) => line(alloc, b"refused ", what.label(), b" TooLarge"),

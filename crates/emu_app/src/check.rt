@@ -10,7 +10,9 @@ ghost use Rattle.emu_app.specs.Reading.{FirstUnread, TextsTellCasesApart, result
 use crate::answer::Answer;
 use crate::command::CheckNames;
 use crate::fetch::{Stop, fetch_texts};
-use crate::read::{OneChip, read_design, read_map, read_netlist, read_one_chip, read_schedule, says_no_groups};
+use crate::read::{
+    OneChip, read_design, read_map, read_netlist, read_one_chip, read_schedule, says_no_groups,
+};
 use crate::what::What;
 use design_core::OneGate;
 use emu_io::{Files, List, NoMemory, Text};
@@ -28,7 +30,11 @@ pub struct OneCase {
 }
 
 /// Fetches the texts of `check` and judges them.
-pub fn check<F: Files>(alloc: Global, files: &mut F, names: &CheckNames<'_>) -> Result<Answer, NoMemory>
+pub fn check<F: Files>(
+    alloc: Global,
+    files: &mut F,
+    names: &CheckNames<'_>,
+) -> Result<Answer, NoMemory>
     ensures means { IfOk result (λ found. CheckMeans (F.held files.old) (F.read_faults files.old) (F.read_faults files.new) (F.blamed files.new) (words_of names.now) found) }
     ensures held_same { F.held files.new ≡ F.held files.old }
     ensures stores_same { F.store_faults files.new ≡ F.store_faults files.old }
@@ -71,7 +77,11 @@ fn judge_case(case: OneCase) -> Answer
 }
 
 /// The case that the texts stand for, or the first text that is not of its form.
-fn read_case(alloc: Global, top: &[u8], texts: &List<Text>) -> Result<Result<OneCase, What>, NoMemory>
+fn read_case(
+    alloc: Global,
+    top: &[u8],
+    texts: &List<Text>,
+) -> Result<Result<OneCase, What>, NoMemory>
     requires count { length texts.now ≡ 7 }
     requires within { AreWithin (texts_of texts.now) }
     ensures { IfOk result (λ read. MatchResult read (ReadsCase top.now (texts_of texts.now)) (FirstUnread top.now (texts_of texts.now))) }

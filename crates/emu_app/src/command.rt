@@ -24,9 +24,17 @@ pub fn check_names(words: &[Word]) -> Option<CheckNames<'_>>
     ensures { MatchOption result (IsNoCommand words.now) (λ names. IsCheck words.now (words_of names)) }
 {
     match words {
-        [command, top, design, cells, groups, board, netlist, schedule, map]
-            if command.bytes() == b"check".as_slice() =>
-        {
+        [
+            command,
+            top,
+            design,
+            cells,
+            groups,
+            board,
+            netlist,
+            schedule,
+            map,
+        ] if command.bytes() == b"check".as_slice() => {
             Some(CheckNames {
                 top,
                 design,

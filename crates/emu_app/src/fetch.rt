@@ -33,7 +33,12 @@ impl From<NoMemory> for Stop {
 }
 
 /// One text of a command.
-pub fn fetch_text<F: Files>(alloc: Global, files: &mut F, name: &Word, what: What) -> Result<Vec<u8>, Stop>
+pub fn fetch_text<F: Files>(
+    alloc: Global,
+    files: &mut F,
+    name: &Word,
+    what: What,
+) -> Result<Vec<u8>, Stop>
     ensures bounded { IfOk result (λ bytes. length bytes.items ≤ limit what) }
     ensures means { TextMeans (λ bytes. bytes.items) (F.held files.old) (F.read_faults files.old) (F.read_faults files.new) (F.blamed files.new) name.now what result }
     ensures later { F.read_faults files.old ≤ F.read_faults files.new }
@@ -49,7 +54,11 @@ pub fn fetch_text<F: Files>(alloc: Global, files: &mut F, name: &Word, what: Wha
 }
 
 /// All texts of `check`, in their order.
-pub fn fetch_texts<F: Files>(alloc: Global, files: &mut F, names: &CheckNames<'_>) -> Result<List<Text>, Stop>
+pub fn fetch_texts<F: Files>(
+    alloc: Global,
+    files: &mut F,
+    names: &CheckNames<'_>,
+) -> Result<List<Text>, Stop>
     ensures count { IfOk result (λ texts. length texts ≡ 7) }
     ensures within { IfOk result (λ texts. AreWithin (texts_of texts)) }
     ensures means { TextsMean texts_of (F.held files.old) (F.read_faults files.old) (F.read_faults files.new) (F.blamed files.new) (words_of names.now) result }

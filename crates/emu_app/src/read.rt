@@ -13,13 +13,13 @@ ghost use Rattle.emu_app.specs.Forms.{AreTokens, SaysBoard, SaysDesign, SaysNetl
 
 use board_model::{Board, BoardFault, read_board};
 use design_core::OneGate;
+use domain_groups::{GroupFault, read_no_groups};
 use elaborator::{ElabFault, read_one_gate};
 use emu_io::NoMemory;
 use id_arena::{ChipId, Key};
-use domain_groups::{GroupFault, read_no_groups};
 use result_files::{
-    FormFault, OneActionSchedule, OneGateNetlist, TwoNetMap, read_one_action_schedule, read_one_gate_netlist,
-    read_two_net_map,
+    FormFault, OneActionSchedule, OneGateNetlist, TwoNetMap, read_one_action_schedule,
+    read_one_gate_netlist, read_two_net_map,
 };
 use std::alloc::Global;
 use verilog_lex::{LexFault, Tokens, tokens};
