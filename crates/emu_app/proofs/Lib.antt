@@ -3,3 +3,4 @@ pub mod Fetches
 pub mod Readings
 pub mod OneCases
 pub mod FirstUnread
+pub mod Endings

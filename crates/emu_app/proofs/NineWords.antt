@@ -1,5 +1,5 @@
 -- A list of nine words is the list of the words at its nine places.
-use Rattle.std.proofs.Common.{ℕ, ◌≡◌, ◌<◌, ◌≤◌, List, [], ◌∷◌, length, get_or, arith}
+use Rattle.std.proofs.Common.{◌≡◌, ◌<◌, ◌≤◌, List, [], ◌∷◌, length, get_or, arith}
 
 pub nine_words : {X : Type 0} (words : List X) (a b c d e f g h i : X) → 9 ≤ length words → length words < 10
     → a ≡ get_or words 0 a

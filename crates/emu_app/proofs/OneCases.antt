@@ -3,15 +3,11 @@ use Rattle.std.proofs.Common.{ℕ, ◌≡◌, ◌<◌, ◌++◌, List, [], ◌�
 use Rattle.std.proofs.lemmas.List.{append_assoc, append-nil}
 use Rattle.std.specs.Fmt.{digits}
 use Rattle.std.specs.Prelude.{codes, decimal}
-use Rattle.verilog_lex.specs.declared.token.Token.{Token}
 use Rattle.verilog_lex.specs.Reads as reading
 use Rattle.design_core.specs.declared.one_gate.OneGate.{OneGate}
 use Rattle.elaborator.specs.OneGateText as designs
 use Rattle.board_model.specs.Answers as boards
-use Rattle.id_arena.specs.BoardPlan.{BoardPlan}
 use Rattle.result_files.specs.declared.one_gate_netlist.OneGateNetlist.{OneGateNetlist}
-use Rattle.result_files.specs.declared.one_action_schedule.OneActionSchedule.{OneActionSchedule}
-use Rattle.result_files.specs.declared.two_net_map.TwoNetMap.{TwoNetMap}
 use Rattle.result_files.specs.OneGateNetlist as netlists
 use Rattle.result_files.specs.OneActionSchedule as schedules
 use Rattle.result_files.specs.TwoNetMap as maps
@@ -20,7 +16,7 @@ use Rattle.emu_machine.specs.Acceptance.{Case}
 use Rattle.schedule_check.specs.OneGateCase.{one_gate_case}
 use Rattle.emu_app.specs.declared.what.What.TheVariants.{Design, Board, Netlist, Schedule, Map}
 use Rattle.emu_app.specs.Fetching.{Texts}
-use Rattle.emu_app.specs.Forms.{AreTokens, SaysDesign, SaysBoard, SaysNetlist}
+use Rattle.emu_app.specs.Forms.{SaysDesign, SaysBoard, SaysNetlist}
 use Rattle.emu_app.specs.Reading.{Say, StandFor, TextsTellCasesApart, results_of}
 use Rattle.emu_app.specs.Printing.{accepted_text, accepted_text_of}
 use Rattle.emu_app.specs.declared.check.OneCase.{OneCase}

@@ -6,3 +6,4 @@ pub mod Printing
 pub mod Reading
 pub mod Answers
 pub mod Cases
+pub mod Outcomes

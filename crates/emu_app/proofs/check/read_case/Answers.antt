@@ -1,12 +1,12 @@
-use Rattle.std.proofs.Common.{rules, ◌≡◌, subst}
+use Rattle.std.proofs.Common.{rules, subst}
 use Rattle.domain_groups.specs.NoGroups.{SaysNoGroups}
 use Rattle.result_files.specs.OneActionSchedule.{SaysSchedule}
 use Rattle.result_files.specs.TwoNetMap.{SaysMap}
-use Rattle.emu_app.specs.declared.what.What.TheVariants.{Design, Groups, Board, Netlist, Schedule, Map}
+use Rattle.emu_app.specs.declared.what.What.TheVariants.{Design, Groups, Netlist, Schedule, Map}
 use Rattle.emu_app.specs.Fetching.{texts_of}
 use Rattle.emu_app.specs.Forms.{SaysDesign, SaysBoard, SaysNetlist}
 use Rattle.emu_app.proofs.OneCases.{reads_case}
-use Rattle.emu_app.proofs.FirstUnread.{none_says, some_says, short_text, DesignRead, BoardDue, NetlistDue, ScheduleDue, MapDue, unread_design, unread_board, unread_netlist, unread_schedule, unread_map}
+use Rattle.emu_app.proofs.FirstUnread.{none_says, some_says, short_text, BoardDue, NetlistDue, ScheduleDue, MapDue, unread_design, unread_board, unread_netlist, unread_schedule, unread_map}
 use Rattle.emu_app.proofs.check.read_case.Goals as goal
 
 pub read_design-requires : goal.read_design-requires

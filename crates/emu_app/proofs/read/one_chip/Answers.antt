@@ -1,4 +1,4 @@
-use Rattle.std.proofs.Common.{rules, arith, ◌≡◌, length, subst, Some, slice_get}
+use Rattle.std.proofs.Common.{rules, ◌≡◌, length, Some, slice_get}
 use Rattle.emu_app.proofs.Readings.{is_one_chip}
 use Rattle.emu_app.proofs.read.one_chip.Goals as goal
 
