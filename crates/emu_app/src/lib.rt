@@ -17,3 +17,6 @@ mod what;
 
 pub use status::Status;
 pub use top::run;
+
+#[cfg(test)]
+mod tests;

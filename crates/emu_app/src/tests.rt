@@ -1,0 +1,163 @@
+//! Commands over texts in memory: how each ends, and what it prints, to the byte.
+
+use crate::{Status, run};
+use emu_io::{List, MemFiles, MemSink, NoMemory, Text, Word};
+use std::alloc::Global;
+use std::test::Fail;
+
+const DESIGN: &[u8] = b"module t(a,y); input a; output y; not(y,a); endmodule\n";
+
+const CELLS: &[u8] = b"{\"version\":1,\"cells\":[]}\n";
+
+const GROUPS: &[u8] = b"{\"groups\":[]}\n";
+
+const BOARD: &[u8] = b"{\"version\":1,\"chips\":[{\"room\":1}],\"wires\":[],\"slots\":1}\n";
+
+const NETLIST: &[u8] =
+    b"module chip0;\nwire n0;\nwire n1;\nnot g0 (n1, n0);\nEHOLD r0 (n0);\nendmodule\n";
+
+const SCHEDULE: &[u8] =
+    b"{\"frames\":[{\"group\":\"*\",\"slots\":[[[\"input\",0,0,2]]]}],\"version\":1}\n";
+
+const MAP: &[u8] =
+    b"{\"chips\":[{\"memories\":[],\"nets\":[[\"net\",2],[\"net\",3]],\"registers\":[true]}],\"outputs\":[[0,1]],\"version\":1}\n";
+
+/// The command that checks the inverter.
+const CHECK: &[u8] = b"check t d.v c.json g.json b.json n.v s.json m.json";
+
+/// The words of a line, which has a space between each two.
+fn words(alloc: Global, line: &[u8]) -> Result<List<Word>, NoMemory> {
+    let mut words = List::new(alloc);
+    for word in line.split(|byte| *byte == b' ') {
+        words.push(Text::from_bytes(alloc, word)?)?;
+    }
+    Ok(words)
+}
+
+/// Puts the bytes under the name.
+fn hold(alloc: Global, files: &mut MemFiles, name: &[u8], bytes: &[u8]) -> Result<(), NoMemory> {
+    files.hold(&Text::from_bytes(alloc, name)?, bytes)
+}
+
+/// The texts of the inverter and of accepted results for it; the fetches of these numbers fail.
+fn inverter(alloc: Global, failing: &[u64]) -> Result<MemFiles, NoMemory> {
+    let mut files = MemFiles::new(alloc, failing)?;
+    hold(alloc, &mut files, b"d.v", DESIGN)?;
+    hold(alloc, &mut files, b"c.json", CELLS)?;
+    hold(alloc, &mut files, b"g.json", GROUPS)?;
+    hold(alloc, &mut files, b"b.json", BOARD)?;
+    hold(alloc, &mut files, b"n.v", NETLIST)?;
+    hold(alloc, &mut files, b"s.json", SCHEDULE)?;
+    hold(alloc, &mut files, b"m.json", MAP)?;
+    Ok(files)
+}
+
+/// What came of a command.
+#[derive(Drop)]
+struct Outcome {
+    status: Status,
+    out: MemSink,
+}
+
+/// Runs the words of a line; the puts of these numbers fail.
+fn outcome(
+    alloc: Global,
+    line: &[u8],
+    files: &mut MemFiles,
+    failing: &[u64],
+) -> Result<Outcome, NoMemory> {
+    let mut out = MemSink::new(alloc, failing)?;
+    let words = words(alloc, line)?;
+    let status = run(alloc, words.as_slice(), files, &mut out);
+    Ok(Outcome { status, out })
+}
+
+/// What comes of the check of the inverter, with these bytes in place of one of its texts.
+fn outcome_with(alloc: Global, name: &[u8], bytes: &[u8]) -> Result<Outcome, NoMemory> {
+    let mut files = inverter(alloc, &[])?;
+    hold(alloc, &mut files, name, bytes)?;
+    outcome(alloc, CHECK, &mut files, &[])
+}
+
+#[test]
+fn the_inverter_is_accepted(rt: HostRuntime) -> Result<(), Fail> {
+    let ended = outcome(rt.alloc(), CHECK, &mut inverter(rt.alloc(), &[])?, &[])?;
+    assert_eq!(rt; ended.out.written(), b"accepted\nframe * 1\n".as_slice());
+    assert_eq!(rt; ended.status, Status::Ok);
+    Ok(())
+}
+
+#[test]
+fn words_of_no_command_are_told(rt: HostRuntime) -> Result<(), Fail> {
+    let ended = outcome(rt.alloc(), b"check t", &mut inverter(rt.alloc(), &[])?, &[])?;
+    assert_eq!(rt;
+        ended.out.written(),
+        b"usage: emu check|compile|make|replay|settle\n".as_slice()
+    );
+    assert_eq!(rt; ended.status, Status::Usage);
+    Ok(())
+}
+
+#[test]
+fn a_text_that_is_not_held_is_named(rt: HostRuntime) -> Result<(), Fail> {
+    let mut files = MemFiles::new(rt.alloc(), &[])?;
+    hold(rt.alloc(), &mut files, b"c.json", CELLS)?;
+    let ended = outcome(rt.alloc(), CHECK, &mut files, &[])?;
+    assert_eq!(rt; ended.out.written(), b"read fault d.v\n".as_slice());
+    assert_eq!(rt; ended.status, Status::ReadFault);
+    Ok(())
+}
+
+#[test]
+fn a_fetch_that_fails_is_named(rt: HostRuntime) -> Result<(), Fail> {
+    for (failing, printed) in [
+        (0, b"read fault d.v\n".as_slice()),
+        (6, b"read fault m.json\n".as_slice()),
+    ] {
+        let mut files = inverter(rt.alloc(), &[failing])?;
+        let ended = outcome(rt.alloc(), CHECK, &mut files, &[])?;
+        assert_eq!(rt; ended.out.written(), printed);
+        assert_eq!(rt; ended.status, Status::ReadFault);
+    }
+    Ok(())
+}
+
+#[test]
+fn a_register_that_is_not_kept_is_rejected(rt: HostRuntime) -> Result<(), Fail> {
+    let map =
+        b"{\"chips\":[{\"memories\":[],\"nets\":[[\"net\",2],[\"net\",3]],\"registers\":[false]}],\"outputs\":[[0,1]],\"version\":1}\n";
+    let ended = outcome_with(rt.alloc(), b"m.json", map)?;
+    assert_eq!(rt; ended.out.written(), b"rejected\n".as_slice());
+    assert_eq!(rt; ended.status, Status::Rejected);
+    Ok(())
+}
+
+#[test]
+fn the_first_text_that_is_not_of_its_form_is_named(rt: HostRuntime) -> Result<(), Fail> {
+    let two_gates = b"module t(a,y); input a; output y; wire b; not(b,a); not(y,b); endmodule\n";
+    for (name, bytes, printed) in [
+        (
+            b"d.v".as_slice(),
+            two_gates.as_slice(),
+            b"refused design NotYet\n".as_slice(),
+        ),
+        (b"g.json", b"{}", b"refused groups NotYet\n"),
+        (b"b.json", b"{}", b"refused board NotYet\n"),
+        (b"n.v", b"module", b"refused netlist NotYet\n"),
+        (b"s.json", b"{}", b"refused schedule NotYet\n"),
+        (b"m.json", b"{}", b"refused map NotYet\n"),
+    ] {
+        let ended = outcome_with(rt.alloc(), name, bytes)?;
+        assert_eq!(rt; ended.out.written(), printed);
+        assert_eq!(rt; ended.status, Status::Refused);
+    }
+    Ok(())
+}
+
+#[test]
+fn a_put_that_fails_is_a_write_fault(rt: HostRuntime) -> Result<(), Fail> {
+    let ended = outcome(rt.alloc(), CHECK, &mut inverter(rt.alloc(), &[])?, &[0])?;
+    assert_eq!(rt; ended.out.written(), b"accepted\n".as_slice());
+    assert_eq!(rt; ended.status, Status::WriteFault);
+    Ok(())
+}
