@@ -60,7 +60,7 @@ struct Outcome {
 }
 
 /// Runs the words of a line; the puts of these numbers fail.
-fn outcome(
+fn end_of(
     alloc: Global,
     line: &[u8],
     files: &mut MemFiles,
@@ -73,15 +73,15 @@ fn outcome(
 }
 
 /// What comes of the check of the inverter, with these bytes in place of one of its texts.
-fn outcome_with(alloc: Global, name: &[u8], bytes: &[u8]) -> Result<Outcome, NoMemory> {
+fn end_with(alloc: Global, name: &[u8], bytes: &[u8]) -> Result<Outcome, NoMemory> {
     let mut files = inverter(alloc, &[])?;
     hold(alloc, &mut files, name, bytes)?;
-    outcome(alloc, CHECK, &mut files, &[])
+    end_of(alloc, CHECK, &mut files, &[])
 }
 
 #[test]
 fn the_inverter_is_accepted(rt: HostRuntime) -> Result<(), Fail> {
-    let ended = outcome(rt.alloc(), CHECK, &mut inverter(rt.alloc(), &[])?, &[])?;
+    let ended = end_of(rt.alloc(), CHECK, &mut inverter(rt.alloc(), &[])?, &[])?;
     assert_eq!(rt; ended.out.written(), b"accepted\nframe * 1\n".as_slice());
     assert_eq!(rt; ended.status, Status::Ok);
     Ok(())
@@ -89,7 +89,7 @@ fn the_inverter_is_accepted(rt: HostRuntime) -> Result<(), Fail> {
 
 #[test]
 fn words_of_no_command_are_told(rt: HostRuntime) -> Result<(), Fail> {
-    let ended = outcome(rt.alloc(), b"check t", &mut inverter(rt.alloc(), &[])?, &[])?;
+    let ended = end_of(rt.alloc(), b"check t", &mut inverter(rt.alloc(), &[])?, &[])?;
     assert_eq!(rt;
         ended.out.written(),
         b"usage: emu check|compile|make|replay|settle\n".as_slice()
@@ -102,7 +102,7 @@ fn words_of_no_command_are_told(rt: HostRuntime) -> Result<(), Fail> {
 fn a_text_that_is_not_held_is_named(rt: HostRuntime) -> Result<(), Fail> {
     let mut files = MemFiles::new(rt.alloc(), &[])?;
     hold(rt.alloc(), &mut files, b"c.json", CELLS)?;
-    let ended = outcome(rt.alloc(), CHECK, &mut files, &[])?;
+    let ended = end_of(rt.alloc(), CHECK, &mut files, &[])?;
     assert_eq!(rt; ended.out.written(), b"read fault d.v\n".as_slice());
     assert_eq!(rt; ended.status, Status::ReadFault);
     Ok(())
@@ -115,7 +115,7 @@ fn a_fetch_that_fails_is_named(rt: HostRuntime) -> Result<(), Fail> {
         (6, b"read fault m.json\n".as_slice()),
     ] {
         let mut files = inverter(rt.alloc(), &[failing])?;
-        let ended = outcome(rt.alloc(), CHECK, &mut files, &[])?;
+        let ended = end_of(rt.alloc(), CHECK, &mut files, &[])?;
         assert_eq!(rt; ended.out.written(), printed);
         assert_eq!(rt; ended.status, Status::ReadFault);
     }
@@ -126,7 +126,7 @@ fn a_fetch_that_fails_is_named(rt: HostRuntime) -> Result<(), Fail> {
 fn a_register_that_is_not_kept_is_rejected(rt: HostRuntime) -> Result<(), Fail> {
     let map =
         b"{\"chips\":[{\"memories\":[],\"nets\":[[\"net\",2],[\"net\",3]],\"registers\":[false]}],\"outputs\":[[0,1]],\"version\":1}\n";
-    let ended = outcome_with(rt.alloc(), b"m.json", map)?;
+    let ended = end_with(rt.alloc(), b"m.json", map)?;
     assert_eq!(rt; ended.out.written(), b"rejected\n".as_slice());
     assert_eq!(rt; ended.status, Status::Rejected);
     Ok(())
@@ -147,7 +147,7 @@ fn the_first_text_that_is_not_of_its_form_is_named(rt: HostRuntime) -> Result<()
         (b"s.json", b"{}", b"refused schedule NotYet\n"),
         (b"m.json", b"{}", b"refused map NotYet\n"),
     ] {
-        let ended = outcome_with(rt.alloc(), name, bytes)?;
+        let ended = end_with(rt.alloc(), name, bytes)?;
         assert_eq!(rt; ended.out.written(), printed);
         assert_eq!(rt; ended.status, Status::Refused);
     }
@@ -156,7 +156,7 @@ fn the_first_text_that_is_not_of_its_form_is_named(rt: HostRuntime) -> Result<()
 
 #[test]
 fn a_put_that_fails_is_a_write_fault(rt: HostRuntime) -> Result<(), Fail> {
-    let ended = outcome(rt.alloc(), CHECK, &mut inverter(rt.alloc(), &[])?, &[0])?;
+    let ended = end_of(rt.alloc(), CHECK, &mut inverter(rt.alloc(), &[])?, &[0])?;
     assert_eq!(rt; ended.out.written(), b"accepted\n".as_slice());
     assert_eq!(rt; ended.status, Status::WriteFault);
     Ok(())
