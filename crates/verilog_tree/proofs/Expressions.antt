@@ -106,12 +106,12 @@ repeat_read ts start count a b n es e c o r z = record {
 pub ruleset braces = (join_fails, repeat_open, repeat_parts, repeat_close)
 
 pub parts_first : {ts : List Terminal} {k n : ℕ} {e : Expr} {none es : List Expr} → none ≡ [] → es ≡ none ++ e ∷ [] →
-    Reads ts (expr ∷ []) (IsExpr ts) k n e → Gathers ts expr CloseBrace (IsParts ts) k n es
+    Reads ts (expr ∷ []) (IsExpr ts) k n e → Gathers ts (expr ∷ more expr CloseBrace ∷ []) expr CloseBrace (IsParts ts) k n es
 parts_first {ts} {k} {n} {e} {none} {es} f g r =
-    subst (λ l. Gathers ts expr CloseBrace (IsParts ts) k n l) (sym (g ∙ ap (λ l. l ++ e ∷ []) f)) (gathers_first (grammar.part_first k n e) r)
+    subst (λ l. Gathers ts (expr ∷ more expr CloseBrace ∷ []) expr CloseBrace (IsParts ts) k n l) (sym (g ∙ ap (λ l. l ++ e ∷ []) f)) (gathers_first (grammar.part_first k n e) r)
 
 pub parts_next : {ts : List Terminal} {k m n : ℕ} {e : Expr} {es later : List Expr} → later ≡ es ++ e ∷ [] →
-    Gathers ts expr CloseBrace (IsParts ts) k m es → Separates ts CloseBrace m →
-    Reads ts (expr ∷ []) (IsExpr ts) (m + 1) n e → Gathers ts expr CloseBrace (IsParts ts) k n later
+    Gathers ts (expr ∷ more expr CloseBrace ∷ []) expr CloseBrace (IsParts ts) k m es → Separates ts CloseBrace m →
+    Reads ts (expr ∷ []) (IsExpr ts) (m + 1) n e → Gathers ts (expr ∷ more expr CloseBrace ∷ []) expr CloseBrace (IsParts ts) k n later
 parts_next {ts} {k} {m} {n} {e} {es} f g s r =
-    subst (λ l. Gathers ts expr CloseBrace (IsParts ts) k n l) (sym f) (gathers_next (grammar.part_next k m (m + 1) n es e) g s r)
+    subst (λ l. Gathers ts (expr ∷ more expr CloseBrace ∷ []) expr CloseBrace (IsParts ts) k n l) (sym f) (gathers_next (grammar.part_next k m (m + 1) n es e) g s r)

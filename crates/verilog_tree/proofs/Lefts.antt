@@ -47,12 +47,12 @@ left_read ts k n es e r = record {
 pub ruleset lefts = (left_named, left_wrong, left_fails)
 
 pub parts_first : {ts : List Terminal} {k n : ℕ} {e : Expr} {none es : List Expr} → none ≡ [] → es ≡ none ++ e ∷ [] →
-    Reads ts (left ∷ []) (IsLeft ts) k n e → Gathers ts left CloseBrace (IsLefts ts) k n es
+    Reads ts (left ∷ []) (IsLeft ts) k n e → Gathers ts (left ∷ more left CloseBrace ∷ []) left CloseBrace (IsLefts ts) k n es
 parts_first {ts} {k} {n} {e} {none} {es} f g r =
-    subst (λ l. Gathers ts left CloseBrace (IsLefts ts) k n l) (sym (g ∙ ap (λ l. l ++ e ∷ []) f)) (gathers_first (grammar.left_first k n e) r)
+    subst (λ l. Gathers ts (left ∷ more left CloseBrace ∷ []) left CloseBrace (IsLefts ts) k n l) (sym (g ∙ ap (λ l. l ++ e ∷ []) f)) (gathers_first (grammar.left_first k n e) r)
 
 pub parts_next : {ts : List Terminal} {k m n : ℕ} {e : Expr} {es later : List Expr} → later ≡ es ++ e ∷ [] →
-    Gathers ts left CloseBrace (IsLefts ts) k m es → Separates ts CloseBrace m →
-    Reads ts (left ∷ []) (IsLeft ts) (m + 1) n e → Gathers ts left CloseBrace (IsLefts ts) k n later
+    Gathers ts (left ∷ more left CloseBrace ∷ []) left CloseBrace (IsLefts ts) k m es → Separates ts CloseBrace m →
+    Reads ts (left ∷ []) (IsLeft ts) (m + 1) n e → Gathers ts (left ∷ more left CloseBrace ∷ []) left CloseBrace (IsLefts ts) k n later
 parts_next {ts} {k} {m} {n} {e} {es} f g s r =
-    subst (λ l. Gathers ts left CloseBrace (IsLefts ts) k n l) (sym f) (gathers_next (grammar.left_next k m (m + 1) n es e) g s r)
+    subst (λ l. Gathers ts (left ∷ more left CloseBrace ∷ []) left CloseBrace (IsLefts ts) k n l) (sym f) (gathers_next (grammar.left_next k m (m + 1) n es e) g s r)

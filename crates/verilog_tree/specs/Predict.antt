@@ -4,7 +4,7 @@ use Rattle.verilog_tree.specs.declared.terminal.Terminal.TheVariants.{Name, Numb
 use Rattle.verilog_tree.specs.declared.reader.Stop.{Stop as StopOf}
 use Rattle.verilog_tree.specs.declared.reader.Stop.TheVariants as Stop
 use Rattle.verilog_tree.specs.declared.reader.Read.{Read}
-use Rattle.verilog_tree.specs.Grammar.{Is}
+use Rattle.verilog_tree.specs.Grammar.{Commas, Is}
 use Rattle.verilog_tree.specs.Terminal.{code_of}
 
 -- What may come next in a text, read from the left: the parts that are still due are a stack, and
@@ -13,10 +13,12 @@ use Rattle.verilog_tree.specs.Terminal.{code_of}
 -- a part of the text that is due
 pub data Symbol : Type 0 where
   source : Symbol
+  module_ : Symbol
   ports : Symbol
   header : Symbol
   port : Symbol
   items : Symbol
+  item : Symbol
   number : Symbol
   due : Terminal → Symbol
   wire : Symbol
@@ -71,9 +73,9 @@ after_left Name = Begins (select ∷ [])
 after_left OpenBrace = Begins (left ∷ more left CloseBrace ∷ [])
 after_left _ = Wrong
 
-abbrev pub after_source : Terminal → Choice
-after_source Module = Begins (due Name ∷ ports ∷ due Semicolon ∷ items ∷ source ∷ [])
-after_source _ = Wrong
+abbrev pub after_module : Terminal → Choice
+after_module Module = Begins (due Name ∷ ports ∷ due Semicolon ∷ items ∷ [])
+after_module _ = Wrong
 
 abbrev pub after_ports : Terminal → Choice
 after_ports OpenParen = Begins (header ∷ [])
@@ -90,15 +92,18 @@ after_port Name = Begins []
 after_port (Direction _) = Begins (wire ∷ range ∷ due Name ∷ [])
 after_port _ = Wrong
 
+abbrev pub after_item : Terminal → Choice
+after_item (Direction _) = Begins (wire ∷ range ∷ due Name ∷ more (due Name) Semicolon ∷ [])
+after_item Wire = Begins (range ∷ net ∷ more net Semicolon ∷ [])
+after_item (Supply _) = Begins (range ∷ due Name ∷ more (due Name) Semicolon ∷ [])
+after_item Assign = Begins (pair ∷ more pair Semicolon ∷ [])
+after_item Gate = Begins (prim ∷ more prim Semicolon ∷ [])
+after_item Name = Begins (inst ∷ more inst Semicolon ∷ [])
+after_item _ = Wrong
+
 abbrev pub after_items : Terminal → Choice
 after_items EndModule = Begins []
-after_items (Direction _) = Begins (wire ∷ range ∷ due Name ∷ more (due Name) Semicolon ∷ items ∷ [])
-after_items Wire = Begins (range ∷ net ∷ more net Semicolon ∷ items ∷ [])
-after_items (Supply _) = Begins (range ∷ due Name ∷ more (due Name) Semicolon ∷ items ∷ [])
-after_items Assign = Begins (pair ∷ more pair Semicolon ∷ items ∷ [])
-after_items Gate = Begins (prim ∷ more prim Semicolon ∷ items ∷ [])
-after_items Name = Begins (inst ∷ more inst Semicolon ∷ items ∷ [])
-after_items _ = Wrong
+after_items t = then_due (after_item t) (items ∷ [])
 
 abbrev pub after_number : Terminal → Choice
 after_number (Number _) = Begins []
@@ -155,8 +160,7 @@ after_link _ = Wrong
 abbrev pub after_links : Terminal → Choice
 after_links CloseParen = Begins []
 after_links Comma = Begins (place ∷ more place CloseParen ∷ [])
-after_links Dot =
-    Begins (due Name ∷ due OpenParen ∷ place ∷ due CloseParen ∷ more link CloseParen ∷ [])
+after_links Dot = then_due (after_link Dot) (more link CloseParen ∷ [])
 after_links t = then_due (after_expr t) (more place CloseParen ∷ [])
 
 abbrev pub after_more : Symbol → Terminal → Terminal → Choice
@@ -165,11 +169,13 @@ after_more x end t = if is_same t end then Begins [] else Wrong
 
 -- what a terminal does to each part
 abbrev pub after : Symbol → Terminal → Choice
-after source t = after_source t
+after source t = then_due (after_module t) (source ∷ [])
+after module_ t = after_module t
 after ports t = after_ports t
 after header t = after_header t
 after port t = after_port t
 after items t = after_items t
+after item t = after_item t
 after number t = after_number t
 after (due u) t = after_due u t
 after wire t = after_wire t
@@ -283,9 +289,14 @@ pub record Closed {A : Type 0} (ts : List Terminal) (X : ℕ → ℕ → A → T
   pub stands : X k place a
   pub ends : Is ts place end n
 
--- while a list is read: its items from place k up to place n, after which another may follow
-pub record Gathers {A : Type 0} (ts : List Terminal) (x : Symbol) (end : Terminal) (X : ℕ → ℕ → A → Type 0) (k n : ℕ) (a : A) : Type 0 where
+-- while a list is read, for which these parts were due at place k: its items up to place n, after
+-- which another may follow
+pub record Gathers {A : Type 0} (ts : List Terminal) (parts : List Symbol) (x : Symbol) (end : Terminal) (X : ℕ → ℕ → A → Type 0) (k n : ℕ) (a : A) : Type 0 where
   pub stands : X k n a
-  pub goes : Leads ts (x ∷ more x end ∷ []) k (more x end ∷ []) n
+  pub goes : Leads ts parts k (more x end ∷ []) n
   pub forward : k ≤ n
   pub inside : n ≤ length ts
+
+-- how a list may go on from some items that end before place k
+abbrev pub Extends : {A : Type 0} → List Terminal → (ℕ → ℕ → A → Type 0) → List A → ℕ → ℕ → List A → Type 0
+Extends ts X first k n later = (j : ℕ) → Commas ts X j k first → Commas ts X j n later

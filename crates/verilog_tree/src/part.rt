@@ -2,7 +2,7 @@
 
 ghost use Rattle.std.specs.Prelude.{◌≡◌, ◌<◌, ◌≤◌, ◌+◌, [], ◌∷◌, IsTrue, length};
 ghost use Rattle.verilog_tree.specs.Grammar.{Commas};
-ghost use Rattle.verilog_tree.specs.Predict.{Answers, Closed, more};
+ghost use Rattle.verilog_tree.specs.Predict.{Answers, Closed, Extends, more};
 ghost use Rattle.verilog_tree.specs.Terminal.{is_plain};
 
 use crate::reader::{Read, Reader, Stop};
@@ -37,7 +37,17 @@ pub(crate) fn read_list<P: Part>(alloc: Global, reader: &Reader, from: u32, end:
     let first = P::read(alloc, reader, from)?;
     let mut items = List::new(alloc);
     items.push(first.node)?;
-    let mut at = first.next;
+    read_rest(alloc, reader, items, first.next, end)
+}
+
+/// Reads what follows some items of a list, and the terminal that ends it.
+pub(crate) fn read_rest<P: Part>(alloc: Global, reader: &Reader, first: List<P>, from: u32, end: Terminal) -> Result<Read<List<P>>, Stop>
+    requires within { from ≤ length reader.now }
+    requires plain { IsTrue (is_plain end) }
+    ensures { Answers reader.now (more P.symbol end ∷ []) (Closed reader.now (Extends reader.now (P.stands reader.now) first) end) from result }
+{
+    let mut items = first;
+    let mut at = from;
     'items: while reader.continues(at, end)? {
         let item = P::read(alloc, reader, at + 1)?;
         items.push(item.node)?;

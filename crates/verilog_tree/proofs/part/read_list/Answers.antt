@@ -1,30 +1,14 @@
-use Rattle.std.proofs.Common.{rules, arith}
+use Rattle.std.proofs.Common.{rules}
 use Rattle.verilog_tree.specs.Grammar.{Commas}
-use Rattle.verilog_tree.proofs.Gathering.{list_first, list_next, first_answered, more_answered, next_answered, gathers_end, separates, closes}
+use Rattle.verilog_tree.proofs.Gathering.{first_answered, list_answers}
 use Rattle.verilog_tree.proofs.part.read_list.Goals as goal
 
-pub continues-requires-clause-within : goal.continues-requires-clause-within
-continues-requires-clause-within g c = c.items.invariant.inside
-
-pub items-init : goal.items-init
-items-init g c = list_first c.new-items.ensures c.in_ok-push.ensures.ok c.in_ok-first.ensures
-
 pub returns-in_err-first : goal.returns-in_err-first
-returns-in_err-first g c = let f = c.from_residual.ensures in first_answered _ g.P.Part.symbol c.args.end _ (Commas c.args.reader.now (g.P.Part.stands c.args.reader.now)) c.from_residual.result _ f.0 f.1 c.in_err-first.ensures
-
-pub returns-in_err-continues : goal.returns-in_err-continues
-returns-in_err-continues g c =
-    let f = c.from_residual-in_err-continues.ensures in
-    more_answered _ g.P.Part.symbol c.args.end _ (Commas c.args.reader.now (g.P.Part.stands c.args.reader.now)) c.from_residual-in_err-continues.result _ f.0 f.1 c.items.invariant c.in_err-continues.ensures.ended
-
-pub returns-in_err-item : goal.returns-in_err-item
-returns-in_err-item g c =
-    let f = c.from_residual-in_err-item.ensures in
-    next_answered _ g.P.Part.symbol c.args.end _ (Commas c.args.reader.now (g.P.Part.stands c.args.reader.now)) c.from_residual-in_err-item.result _ f.0 f.1 c.items.invariant (separates _ _ _ _ c.if-branch.true c.in_ok-continues.ensures.ended) c.in_err-item.ensures
-
-pub items-preserved : goal.items-preserved
-items-preserved g c =
-    list_next c.in_ok-push-2.ensures.ok c.items.invariant (separates _ _ _ _ c.if-branch.true c.in_ok-continues.ensures.ended) c.in_ok-item.ensures
+returns-in_err-first g c =
+    let f = c.from_residual.ensures in
+    first_answered _ g.P.Part.symbol c.args.end _ (Commas c.args.reader.now (g.P.Part.stands c.args.reader.now)) c.from_residual.result _ f.0 f.1 c.in_err-first.ensures
 
 pub returns : goal.returns
-returns g c = gathers_end c.items.invariant (closes _ _ _ _ c.if-branch.false c.in_ok-continues.ensures.ended)
+returns g c =
+    list_answers _ g.P.Part.symbol c.args.end (g.P.Part.stands c.args.reader.now) _ _ _ _ _ c.read_rest.result
+        c.new-items.ensures c.in_ok-push.ensures.ok c.in_ok-first.ensures c.read_rest.ensures
