@@ -1,5 +1,5 @@
 -- Reading a list with commas between its items.
-use Rattle.std.proofs.Common.{◌≡◌, ℕ, ◌+◌, ◌≤◌, List, [], ◌∷◌, ◌++◌, Result, Ok, Err, IsErr, Bool, true, false, length, refl, sym, ◌∙◌, ap, subst, arith}
+use Rattle.std.proofs.Common.{◌≡◌, ℕ, ◌+◌, ◌≤◌, List, [], ◌∷◌, ◌++◌, Result, Ok, Err, IsErr, Bool, true, false, length, length-append, refl, sym, ◌∙◌, ap, subst, arith}
 use Rattle.std.specs.Result.{IsErrAnd}
 use Rattle.verilog_tree.specs.declared.reader.Read.{Read}
 use Rattle.verilog_tree.specs.declared.terminal.Terminal.{Terminal}
@@ -57,14 +57,14 @@ gathers_next {x = x} into g s r = record {
 
 pub rest_first : {A : Type 0} {ts : List Terminal} (x : Symbol) (end : Terminal) (X : ℕ → ℕ → A → Type 0) (k : ℕ) (items : List A) → k ≤ length ts →
     Gathers ts (more x end ∷ []) x end (Extends ts X items) k k items
-rest_first x end X k items w = record { stands = λ j c. c; goes = record { leads = λ below. refl }; forward = omega arith; inside = w }
+rest_first x end X k items w = record { stands = record { goes_on = λ j c. c; longer = omega arith }; goes = record { leads = λ below. refl }; forward = omega arith; inside = w }
 
 pub rest_next : {A : Type 0} {ts : List Terminal} {x : Symbol} {end : Terminal} {X : ℕ → ℕ → A → Type 0} {k m n : ℕ} {a : A} (first : List A) {items later : List A} →
     later ≡ items ++ a ∷ [] → Gathers ts (more x end ∷ []) x end (Extends ts X first) k m items → Separates ts end m → Reads ts (x ∷ []) X (m + 1) n a →
     Gathers ts (more x end ∷ []) x end (Extends ts X first) k n later
 rest_next {ts = ts} {x = x} {end = end} {X = X} {k = k} {m = m} {n = n} {a = a} first {items = items} f g s r =
     subst (λ l. Gathers ts (more x end ∷ []) x end (Extends ts X first) k n l) (sym f)
-        (gathers_next {X = X} {Y = Extends ts X first} (λ e i h j c. next_item j m (m + 1) n items a (e j c) i h) g s r)
+        (gathers_next {X = X} {Y = Extends ts X first} (λ e i h. record { goes_on = λ j c. next_item j m (m + 1) n items a (e.goes_on j c) i h; longer = (let w = e.longer in simp length-append (omega arith)) }) g s r)
 
 -- what a look after an item answered
 pub separates : (ts : List Terminal) (end : Terminal) (k : ℕ) (b : Bool) → b ≡ true → Continues ts end k (Ok b) → Separates ts end k
@@ -100,7 +100,7 @@ pub list_answers : {A : Type 0} (ts : List Terminal) (x : Symbol) (end : Termina
 list_answers ts x end X k m a none items (Ok r) e f first rest = record {
   stands = record {
     place = rest.stands.place;
-    stands = rest.stands.stands k (subst (λ l. Commas ts X k m l) (sym (f ∙ ap (λ l. l ++ a ∷ []) e)) (first_item k m a first.stands));
+    stands = rest.stands.stands.goes_on k (subst (λ l. Commas ts X k m l) (sym (f ∙ ap (λ l. l ++ a ∷ []) e)) (first_item k m a first.stands));
     ends = rest.stands.ends
   };
   goes = record { leads = λ below. first.goes.leads (more x end ∷ below) ∙ rest.goes.leads below };

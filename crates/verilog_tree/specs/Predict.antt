@@ -16,6 +16,7 @@ pub data Symbol : Type 0 where
   module_ : Symbol
   ports : Symbol
   header : Symbol
+  one : Symbol
   port : Symbol
   items : Symbol
   item : Symbol
@@ -32,6 +33,7 @@ pub data Symbol : Type 0 where
   value : Symbol
   net : Symbol
   pair : Symbol
+  label : Symbol
   prim : Symbol
   inst : Symbol
   links : Symbol
@@ -73,24 +75,29 @@ after_left Name = Begins (select ∷ [])
 after_left OpenBrace = Begins (left ∷ more left CloseBrace ∷ [])
 after_left _ = Wrong
 
-abbrev pub after_module : Terminal → Choice
-after_module Module = Begins (due Name ∷ ports ∷ due Semicolon ∷ items ∷ [])
-after_module _ = Wrong
+abbrev pub after_number : Terminal → Choice
+after_number (Number _) = Begins []
+after_number _ = Wrong
+
+abbrev pub after_due : Terminal → Terminal → Choice
+after_due u t = if is_same t u then Begins [] else Wrong
 
 abbrev pub after_ports : Terminal → Choice
 after_ports OpenParen = Begins (header ∷ [])
 after_ports _ = Skips
 
+abbrev pub after_one : Terminal → Choice
+after_one (Direction _) = Begins (wire ∷ range ∷ due Name ∷ [])
+after_one _ = Wrong
+
 abbrev pub after_header : Terminal → Choice
 after_header CloseParen = Begins []
-after_header Name = Begins (more (due Name) CloseParen ∷ [])
-after_header (Direction _) = Begins (wire ∷ range ∷ due Name ∷ more port CloseParen ∷ [])
-after_header _ = Wrong
+after_header (Direction dir) = then_due (after_one (Direction dir)) (more port CloseParen ∷ [])
+after_header t = then_due (after_due Name t) (more (due Name) CloseParen ∷ [])
 
 abbrev pub after_port : Terminal → Choice
 after_port Name = Begins []
-after_port (Direction _) = Begins (wire ∷ range ∷ due Name ∷ [])
-after_port _ = Wrong
+after_port t = after_one t
 
 abbrev pub after_item : Terminal → Choice
 after_item (Direction _) = Begins (wire ∷ range ∷ due Name ∷ more (due Name) Semicolon ∷ [])
@@ -104,13 +111,6 @@ after_item _ = Wrong
 abbrev pub after_items : Terminal → Choice
 after_items EndModule = Begins []
 after_items t = then_due (after_item t) (items ∷ [])
-
-abbrev pub after_number : Terminal → Choice
-after_number (Number _) = Begins []
-after_number _ = Wrong
-
-abbrev pub after_due : Terminal → Terminal → Choice
-after_due u t = if is_same t u then Begins [] else Wrong
 
 abbrev pub after_wire : Terminal → Choice
 after_wire Wire = Begins []
@@ -139,9 +139,9 @@ abbrev pub after_value : Terminal → Choice
 after_value Equals = Begins (expr ∷ [])
 after_value _ = Skips
 
-abbrev pub after_net : Terminal → Choice
-after_net Name = Begins (value ∷ [])
-after_net _ = Wrong
+abbrev pub after_label : Terminal → Choice
+after_label Name = Begins []
+after_label _ = Skips
 
 abbrev pub after_prim : Terminal → Choice
 after_prim Name =
@@ -149,13 +149,8 @@ after_prim Name =
 after_prim OpenParen = Begins (expr ∷ due Comma ∷ expr ∷ more expr CloseParen ∷ [])
 after_prim _ = Wrong
 
-abbrev pub after_inst : Terminal → Choice
-after_inst Name = Begins (due OpenParen ∷ links ∷ [])
-after_inst _ = Wrong
-
 abbrev pub after_link : Terminal → Choice
-after_link Dot = Begins (due Name ∷ due OpenParen ∷ place ∷ due CloseParen ∷ [])
-after_link _ = Wrong
+after_link t = then_due (after_due Dot t) (due Name ∷ due OpenParen ∷ place ∷ due CloseParen ∷ [])
 
 abbrev pub after_links : Terminal → Choice
 after_links CloseParen = Begins []
@@ -169,10 +164,12 @@ after_more x end t = if is_same t end then Begins [] else Wrong
 
 -- what a terminal does to each part
 abbrev pub after : Symbol → Terminal → Choice
-after source t = then_due (after_module t) (source ∷ [])
-after module_ t = after_module t
+after source t =
+    then_due (after_due Module t) (due Name ∷ ports ∷ due Semicolon ∷ items ∷ source ∷ [])
+after module_ t = then_due (after_due Module t) (due Name ∷ ports ∷ due Semicolon ∷ items ∷ [])
 after ports t = after_ports t
 after header t = after_header t
+after one t = after_one t
 after port t = after_port t
 after items t = after_items t
 after item t = after_item t
@@ -187,10 +184,11 @@ after brace t = after_brace t
 after left t = after_left t
 after place t = or_absent (after_expr t)
 after value t = after_value t
-after net t = after_net t
+after net t = then_due (after_due Name t) (value ∷ [])
 after pair t = then_due (after_left t) (due Equals ∷ expr ∷ [])
+after label t = after_label t
 after prim t = after_prim t
-after inst t = after_inst t
+after inst t = then_due (after_due Name t) (due OpenParen ∷ links ∷ [])
 after links t = after_links t
 after link t = after_link t
 after (more x end) t = after_more x end t
@@ -212,6 +210,7 @@ may_vanish source = true
 may_vanish ports = true
 may_vanish wire = true
 may_vanish range = true
+may_vanish label = true
 may_vanish select = true
 may_vanish place = true
 may_vanish value = true
@@ -298,5 +297,20 @@ pub record Gathers {A : Type 0} (ts : List Terminal) (parts : List Symbol) (x : 
   pub inside : n ≤ length ts
 
 -- how a list may go on from some items that end before place k
-abbrev pub Extends : {A : Type 0} → List Terminal → (ℕ → ℕ → A → Type 0) → List A → ℕ → ℕ → List A → Type 0
-Extends ts X first k n later = (j : ℕ) → Commas ts X j k first → Commas ts X j n later
+pub record Extends {A : Type 0} (ts : List Terminal) (X : ℕ → ℕ → A → Type 0) (first : List A) (k n : ℕ) (later : List A) : Type 0 where
+  pub goes_on : (j : ℕ) → Commas ts X j k first → Commas ts X j n later
+  pub longer : length first ≤ length later
+
+-- whether an expression begins with this terminal
+abbrev pub starts : Option Terminal → Bool
+starts (Some Name) = true
+starts (Some Constant) = true
+starts (Some OpenBrace) = true
+starts _ = false
+
+-- a part that may be absent, and is of no interest, ends before place n
+pub record Passed (ts : List Terminal) (s : Symbol) (X : ℕ → ℕ → Type 0) (k n : ℕ) : Type 0 where
+  pub stands : X k n
+  pub goes : Leads ts (s ∷ []) k [] n
+  pub forward : k ≤ n
+  pub inside : n ≤ length ts
