@@ -1,10 +1,12 @@
 use Rattle.std.specs.Prelude.{◌≡◌, ℕ, ◌+◌, ◌≤◌, Bool, true, false, if◌then◌else◌, ◌==◌, ◌&&◌, List, [], ◌∷◌, ◌++◌, Option, Some, None, Result, Ok, Err, length, drop}
+use Rattle.verilog_tree.specs.declared.source.PortName.{PortName}
+use Rattle.verilog_tree.specs.declared.source.Source.{Source}
 use Rattle.verilog_tree.specs.declared.terminal.Terminal.{Terminal}
 use Rattle.verilog_tree.specs.declared.terminal.Terminal.TheVariants.{Name, Number, Constant, Module, EndModule, Direction, Wire, Supply, Assign, Gate, OpenParen, CloseParen, OpenBracket, CloseBracket, OpenBrace, CloseBrace, Comma, Semicolon, Colon, Equals, Dot}
 use Rattle.verilog_tree.specs.declared.reader.Stop.{Stop as StopOf}
 use Rattle.verilog_tree.specs.declared.reader.Stop.TheVariants as Stop
 use Rattle.verilog_tree.specs.declared.reader.Read.{Read}
-use Rattle.verilog_tree.specs.Grammar.{Commas, Is}
+use Rattle.verilog_tree.specs.Grammar.{Commas, Is, IsOne, IsSource}
 use Rattle.verilog_tree.specs.Terminal.{code_of}
 
 -- What may come next in a text, read from the left: the parts that are still due are a stack, and
@@ -314,3 +316,14 @@ pub record Passed (ts : List Terminal) (s : Symbol) (X : ℕ → ℕ → Type 0)
   pub goes : Leads ts (s ∷ []) k [] n
   pub forward : k ≤ n
   pub inside : n ≤ length ts
+
+-- a later port of a header: with a direction, or a name with the direction and range of the port
+-- before it
+pub data IsLater (ts : List Terminal) (before : PortName) : ℕ → ℕ → PortName → Type 0 where
+  with_direction : (k n : ℕ) (p : PortName) → IsOne ts k n p → IsLater ts before k n p
+  bare : (k n : ℕ) → Is ts k Name n → IsLater ts before k n (record { name = k; dir = before.dir; range = before.range })
+
+-- what reading the whole text answers
+abbrev pub SourceAnswers : List Terminal → Result Source StopOf → Type 0
+SourceAnswers ts (Ok tree) = IsSource ts tree × (fault (source ∷ []) ts ≡ None)
+SourceAnswers ts (Err stop) = Fails ts (source ∷ []) 0 stop

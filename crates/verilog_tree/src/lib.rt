@@ -1,8 +1,14 @@
 //! The tree of a Verilog source text.
 #![tactic(auto)]
 
+mod assignment;
 mod expression;
+mod header;
+mod instance;
+mod item;
+mod module;
 mod part;
+mod primitive;
 mod reader;
 mod source;
 mod terminal;

@@ -11,6 +11,7 @@ use emu_io::List;
 use std::alloc::Global;
 
 /// A part of the text that stands in lists.
+#[allow(dead_code)]
 pub(crate) trait Part: Sized + Drop {
     ghost use Rattle.std.specs.Prelude.{List, ℕ};
     ghost use Rattle.verilog_tree.specs.Predict.{Symbol};

@@ -1,8 +1,8 @@
 //! Reading one terminal after another.
 
-ghost use Rattle.std.specs.Prelude.{◌≡◌, ◌<◌, ◌≤◌, ◌+◌, ◌^◌, [], ◌∷◌, IsTrue, OnSome, length, slice_get, map, take};
-ghost use Rattle.verilog_tree.specs.Grammar.{IsNumber};
-ghost use Rattle.verilog_tree.specs.Predict.{Answers, Continues, Meets, number};
+ghost use Rattle.std.specs.Prelude.{◌≡◌, ◌<◌, ◌≤◌, ◌+◌, ◌^◌, [], ◌∷◌, IsTrue, OnSome, Some, ◌↔◌, length, slice_get, map, take};
+ghost use Rattle.verilog_tree.specs.Grammar.{IsNumber, IsWire};
+ghost use Rattle.verilog_tree.specs.Predict.{Answers, Continues, Meets, Passed, number, starts, wire};
 ghost use Rattle.verilog_tree.specs.Terminal.{is_plain, terminal_at};
 
 use crate::terminal::{Terminal, terminal_for};
@@ -85,6 +85,38 @@ impl<'a> Reader<'a> {
             Some(terminal_for(self.tokens.token(place).kind))
         } else {
             None
+        }
+    }
+
+    /// Whether this terminal stands at a place.
+    pub(crate) fn is_at(&self, place: u32, terminal: Terminal) -> bool
+        requires { IsTrue (is_plain terminal) }
+        ensures { IsTrue result ↔ (slice_get self.now place ≡ Some terminal) }
+    {
+        match self.at(place) {
+            Some(found) => found.is(terminal),
+            None => false,
+        }
+    }
+
+    /// Whether an expression begins at a place.
+    pub(crate) fn starts_expr(&self, place: u32) -> bool
+        ensures { result ≡ starts (slice_get self.now place) }
+    {
+        matches!(
+            self.at(place),
+            Some(Terminal::Name | Terminal::Constant | Terminal::OpenBrace)
+        )
+    }
+
+    /// The place after the word `wire`, if it stands at a place, and else that place.
+    pub(crate) fn skip_wire(&self, from: u32) -> u32
+        requires { from ≤ length self.now }
+        ensures { Passed self.now wire (IsWire self.now) from result }
+    {
+        match self.at(from) {
+            Some(Terminal::Wire) => from + 1,
+            _ => from,
         }
     }
 
