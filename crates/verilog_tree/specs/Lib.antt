@@ -1,3 +1,4 @@
 pub mod Grammar
 pub mod Predict
+pub mod Source
 pub mod Terminal

@@ -8,10 +8,14 @@ mod instance;
 mod item;
 mod module;
 mod part;
+mod parse;
 mod primitive;
 mod reader;
 mod source;
 mod terminal;
+#[cfg(test)]
+mod tests;
 
+pub use parse::{ParseFault, parse};
 pub use source::{AssignPair, Dir, Expr, IndexRange, Inst, Item, Links, Module, NamedLink, NetPart, PortName, Prim, Source};
 pub use terminal::Terminal;

@@ -47,6 +47,7 @@ pub(crate) struct Read<T> {
     pub(crate) next: u32,
 }
 
+#[derive(Drop)]
 /// The tokens before `end`; contracts see their terminals.
 pub(crate) struct Reader<'a> {
     tokens: &'a Tokens,
