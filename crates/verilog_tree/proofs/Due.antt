@@ -1,5 +1,5 @@
 -- How reading goes on, step by step.
-use Rattle.std.proofs.Common.{◌≡◌, ℕ, suc, ◌+◌, ◌≤◌, ◌<◌, List, [], ◌∷◌, ◌++◌, Option, Some, None, Result, Ok, Err, IsErr, Bool, true, false, if◌then◌else◌, ◌&&◌, ◌⊎◌, inl, inr, slice_get, length, drop, refl, sym, ◌∙◌, ap, subst, add-one, append_assoc, arith}
+use Rattle.std.proofs.Common.{◌≡◌, ℕ, suc, ◌+◌, ◌≤◌, ◌<◌, List, [], ◌∷◌, ◌++◌, Option, Some, None, Result, Ok, Err, IsErr, IfOk, Bool, true, false, if◌then◌else◌, ◌&&◌, ◌⊎◌, inl, inr, slice_get, length, drop, refl, sym, ◌∙◌, ap, subst, add-one, append_assoc, arith}
 use Rattle.std.specs.Result.{IsErrAnd}
 use Rattle.std.proofs.Math.Seq.{drop-cons}
 use Rattle.std.proofs.lemmas.List.{drop_all}
@@ -178,3 +178,23 @@ pub answered : {A : Type 0} {ts : List Terminal} {parts : List Symbol} {k : ℕ}
     IsErr r → IsErrAnd r (λ e. e ≡ stop) → Fails ts parts k stop → Answers ts parts X k r
 answered X (Ok x) stop i j f = absurd (let no : ⊥ = cc in no)
 answered {ts = ts} {parts = parts} {k = k} X (Err e) stop i j f = subst (λ (s : StopOf). Fails ts parts k s) (sym j) f
+
+-- the same at the first part that is due
+pub halted : {A : Type 0} {ts : List Terminal} {parts rest : List Symbol} {s : Symbol} {k m : ℕ} {stop : StopOf} (X : ℕ → ℕ → A → Type 0) (r : Result (Read A) StopOf) →
+    IsErr r × IsErrAnd r (λ e. e ≡ stop) → Leads ts parts k (s ∷ rest) m → Fails ts (s ∷ []) m stop → Answers ts parts X k r
+halted {stop = stop} X r f l e = answered X r stop f.0 f.1 (fails_after l e)
+
+-- the same where all that is due fails
+pub halted_all : {A : Type 0} {ts : List Terminal} {parts rest : List Symbol} {k m : ℕ} {stop : StopOf} (X : ℕ → ℕ → A → Type 0) (r : Result (Read A) StopOf) →
+    IsErr r × IsErrAnd r (λ e. e ≡ stop) → Leads ts parts k rest m → Fails ts rest m stop → Answers ts parts X k r
+halted_all {stop = stop} X r f l e = answered X r stop f.0 f.1 (fails_from l e)
+
+-- nothing has been read yet
+pub stays : {ts : List Terminal} {parts : List Symbol} {k : ℕ} → Leads ts parts k parts k
+stays = record { leads = λ below. refl }
+
+-- what is read from the next place on ends behind this one
+pub further : {A : Type 0} (ts : List Terminal) (parts : List Symbol) (X : ℕ → ℕ → A → Type 0) (k : ℕ) (r : Result (Read A) StopOf) →
+    Answers ts parts X (k + 1) r → IfOk r (λ x. k < x.next)
+further ts parts X k (Ok r) f = (let w = f.forward in omega arith)
+further ts parts X k (Err stop) f = tt

@@ -6,3 +6,5 @@ pub mod Selects
 pub mod Gathering
 pub mod Expressions
 pub mod Lefts
+pub mod Begins
+pub mod Primitives

@@ -35,6 +35,7 @@ is_other t u p other = ne_eqb (code_of t) (code_of u) (λ e. other (plain t u p 
 pub due_passed : (ts : List Terminal) (k : ℕ) (u : Terminal) → slice_get ts k ≡ Some u → Passes ts u k (k + 1)
 due_passed ts k u e = record {
   is = record { here = e; after = refl };
+  forward = omega arith;
   goes = begins [] [] e (ap (λ b. if b then Begins [] else Wrong) (is_same_self u));
   inside = here_within ts k u e
 }

@@ -258,6 +258,7 @@ Answers ts parts X k (Err stop) = Fails ts parts k stop
 -- reading one terminal, which was due, gave the place after it
 pub record Passes (ts : List Terminal) (t : Terminal) (k n : ℕ) : Type 0 where
   pub is : Is ts k t n
+  pub forward : k ≤ n
   pub goes : Leads ts (due t ∷ []) k [] n
   pub inside : n ≤ length ts
 

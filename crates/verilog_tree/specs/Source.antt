@@ -1,6 +1,6 @@
 use Rattle.std.specs.Prelude.{◌≡◌, ℕ, ◌+◌, ◌≤◌, ◌<◌, suc, List, [], ◌∷◌, ◌++◌, Option, Some, None, Result, Ok, Err, slice_get, length, take, drop}
-use Rattle.verilog_tree.specs.declared.parse.ParseFault.{ParseFault}
-use Rattle.verilog_tree.specs.declared.parse.ParseFault.TheVariants.{Expected, Unsupported, TooDeep, NoMemory}
+use Rattle.verilog_tree.specs.declared.parser.ParseFault.{ParseFault}
+use Rattle.verilog_tree.specs.declared.parser.ParseFault.TheVariants.{Expected, Unsupported, TooDeep, NoMemory}
 use Rattle.verilog_tree.specs.declared.source.Source.{Source}
 use Rattle.verilog_tree.specs.declared.terminal.Terminal.{Terminal}
 use Rattle.verilog_tree.specs.declared.terminal.Terminal.TheVariants.{OpenBrace, CloseBrace, Reserved}

@@ -8,7 +8,7 @@ mod instance;
 mod item;
 mod module;
 mod part;
-mod parse;
+mod parser;
 mod primitive;
 mod reader;
 mod source;
@@ -16,6 +16,6 @@ mod terminal;
 #[cfg(test)]
 mod tests;
 
-pub use parse::{ParseFault, parse};
+pub use parser::{ParseFault, parse};
 pub use source::{AssignPair, Dir, Expr, IndexRange, Inst, Item, Links, Module, NamedLink, NetPart, PortName, Prim, Source};
 pub use terminal::Terminal;
