@@ -65,6 +65,21 @@ module _ {ts : List Terminal} {k : ℕ} where
       go : (t : Terminal) → slice_get ts k ≡ Some t → after_links t ≡ then_due (after_link t) (more link CloseParen ∷ [])
       go t e = (let same : t ≡ Dot = cc in subst (λ u. after_links u ≡ then_due (after_link u) (more link CloseParen ∷ [])) (sym same) refl)
 
+  pub links_end : slice_get ts k ≡ Some CloseParen → Leads ts (links ∷ []) k [] (k + 1)
+  links_end e = begins [] [] e refl
+
+  pub header_end : slice_get ts k ≡ Some CloseParen → Leads ts (header ∷ []) k [] (k + 1)
+  header_end e = begins [] [] e refl
+
+  pub port_name : slice_get ts k ≡ Some Name → Leads ts (port ∷ []) k [] (k + 1)
+  port_name e = begins [] [] e refl
+
+  pub items_end : slice_get ts k ≡ Some EndModule → Leads ts (items ∷ []) k [] (k + 1)
+  items_end e = begins [] [] e refl
+
+  pub wire_begins : slice_get ts k ≡ Some Wire → Leads ts (wire ∷ []) k [] (k + 1)
+  wire_begins e = begins [] [] e refl
+
   pub ports_begin : slice_get ts k ≡ Some OpenParen → Leads ts (ports ∷ []) k (header ∷ []) (k + 1)
   ports_begin e = begins (header ∷ []) [] e refl
 

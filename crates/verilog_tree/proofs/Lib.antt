@@ -8,3 +8,4 @@ pub mod Expressions
 pub mod Lefts
 pub mod Begins
 pub mod Primitives
+pub mod Instances
