@@ -9,3 +9,4 @@ pub mod Lefts
 pub mod Begins
 pub mod Primitives
 pub mod Instances
+pub mod Items
