@@ -1,6 +1,7 @@
 //! Reading one terminal after another.
 
 ghost use Rattle.std.specs.Prelude.{◌≡◌, ◌<◌, ◌≤◌, ◌+◌, ◌^◌, [], ◌∷◌, IsTrue, OnSome, Some, ◌↔◌, length, slice_get, map, take};
+ghost use Rattle.std.specs.Bool.{OnTrue};
 ghost use Rattle.verilog_tree.specs.Grammar.{IsNumber, IsWire};
 ghost use Rattle.verilog_tree.specs.Predict.{Answers, Continues, Meets, Passed, number, starts, wire};
 ghost use Rattle.verilog_tree.specs.Terminal.{is_plain, terminal_at};
@@ -92,7 +93,9 @@ impl<'a> Reader<'a> {
     /// Whether this terminal stands at a place.
     pub(crate) fn is_at(&self, place: u32, terminal: Terminal) -> bool
         requires { IsTrue (is_plain terminal) }
-        ensures { IsTrue result ↔ (slice_get self.now place ≡ Some terminal) }
+        ensures found { IsTrue result ↔ (slice_get self.now place ≡ Some terminal) }
+        ensures within { OnTrue result (place < length self.now) }
+        ensures room { length self.now < 2 ^ 32 }
     {
         match self.at(place) {
             Some(found) => found.is(terminal),
