@@ -10,3 +10,5 @@ pub mod Begins
 pub mod Primitives
 pub mod Instances
 pub mod Items
+pub mod Headers
+pub mod Modules
