@@ -51,7 +51,7 @@ expr_due OpenBrace e = cc
 expr_due _ e = cc
 
 -- after a brace that no number follows, parts are due
-join_begins : (ts : List Terminal) (k : ℕ) → ((n : ℕ) → slice_get ts k ≡ Some (Number n) → ⊥) →
+pub join_begins : (ts : List Terminal) (k : ℕ) → ((n : ℕ) → slice_get ts k ≡ Some (Number n) → ⊥) →
     Leads ts (brace ∷ []) k (expr ∷ more expr CloseBrace ∷ []) k
 join_begins ts k not_number = unfolds ts k brace expr (more expr CloseBrace ∷ []) refl refl expr_due go
   where

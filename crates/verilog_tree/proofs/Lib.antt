@@ -12,3 +12,5 @@ pub mod Instances
 pub mod Items
 pub mod Headers
 pub mod Modules
+pub mod Passing
+pub mod PassingItems
