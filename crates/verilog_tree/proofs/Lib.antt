@@ -14,3 +14,5 @@ pub mod Headers
 pub mod Modules
 pub mod Passing
 pub mod PassingItems
+pub mod Standing
+pub mod Backward

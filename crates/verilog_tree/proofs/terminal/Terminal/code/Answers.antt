@@ -1,2 +1,2 @@
-use Rattle.verilog_tree.proofs.PassingItems.{source_goes}
+use Rattle.verilog_tree.proofs.Backward.{back}
 use Rattle.verilog_tree.proofs.terminal.Terminal.code.Goals as goal
