@@ -16,3 +16,4 @@ pub mod Passing
 pub mod PassingItems
 pub mod Standing
 pub mod Backward
+pub mod Viable

@@ -25,7 +25,7 @@ number_wrong ts k w not_number = wrong ts k number [] w refl go
     go (Number value) e = absurd (not_number value e)
     go _ e = refl
 
-is_same_self : (t : Terminal) → is_same t t ≡ true
+pub is_same_self : (t : Terminal) → is_same t t ≡ true
 is_same_self t = eq-eqb (code_of t) (code_of t) refl
 
 is_other : (t u : Terminal) → is_plain u ≡ true → (t ≡ u → ⊥) → is_same t u ≡ false

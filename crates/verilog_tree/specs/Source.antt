@@ -1,4 +1,5 @@
-use Rattle.std.specs.Prelude.{◌≡◌, ℕ, ◌+◌, ◌≤◌, ◌<◌, suc, List, [], ◌∷◌, ◌++◌, Option, Some, None, Result, Ok, Err, slice_get, length, take, drop}
+use Prim.Native.Nat.{zero, suc}
+use Rattle.std.specs.Prelude.{◌≡◌, ℕ, ◌+◌, ◌≤◌, ◌<◌, List, [], ◌∷◌, ◌++◌, Option, Some, None, Result, Ok, Err, slice_get, length, take, drop}
 use Rattle.verilog_tree.specs.declared.parser.ParseFault.{ParseFault}
 use Rattle.verilog_tree.specs.declared.parser.ParseFault.TheVariants.{Expected, Unsupported, TooDeep, NoMemory}
 use Rattle.verilog_tree.specs.declared.source.Source.{Source}
@@ -18,13 +19,17 @@ pub record FirstFault (ts : List Terminal) (p : ℕ) : Type 0 where
   pub up_to : p < length ts → Begins (take (p + 1) ts) → ⊥
   pub at_end : p ≡ length ts → (tree : Source) → IsSource ts tree → ⊥
 
+-- the room for opening braces that a terminal leaves, if there was room for it
+abbrev pub room_after : ℕ → Terminal → Option ℕ
+room_after zero OpenBrace = None
+room_after (suc room) OpenBrace = Some room
+room_after room CloseBrace = Some (room + 1)
+room_after room _ = Some room
+
 -- the terminals from the first opening brace on for which no room is left
 abbrev pub dives : ℕ → List Terminal → Option (List Terminal)
 dives room [] = None
-dives zero (OpenBrace ∷ ts) = Some (OpenBrace ∷ ts)
-dives (suc room) (OpenBrace ∷ ts) = dives room ts
-dives room (CloseBrace ∷ ts) = dives (suc room) ts
-dives room (_ ∷ ts) = dives room ts
+dives room (t ∷ ts) = elim (room_after room t) [ None ↦ Some (t ∷ ts) | Some later ↦ dives later ts ]
 
 -- the place of that brace
 abbrev pub IsFirstDeep : List Terminal → Option ℕ → Type 0

@@ -1,2 +1,2 @@
-use Rattle.verilog_tree.proofs.Backward.{back}
+use Rattle.verilog_tree.proofs.Viable.{first_fault}
 use Rattle.verilog_tree.proofs.terminal.Terminal.code.Goals as goal
