@@ -17,3 +17,5 @@ pub mod PassingItems
 pub mod Standing
 pub mod Backward
 pub mod Viable
+pub mod Dives
+pub mod Parsing

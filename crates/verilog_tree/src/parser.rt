@@ -1,6 +1,7 @@
 //! The tree of a list of tokens, or the place where no text has them.
 
 ghost use Rattle.std.specs.Prelude.{◌≡◌, ◌<◌, length, map};
+ghost use Rattle.verilog_tree.specs.Parsing.{FaultIs, readable};
 ghost use Rattle.verilog_tree.specs.Source.{Explains, IsFirstDeep};
 ghost use Rattle.verilog_tree.specs.Terminal.{terminal_at};
 
@@ -33,22 +34,14 @@ pub fn parse(alloc: Global, tokens: &Tokens) -> Result<Source, ParseFault>
     ensures { Explains (map terminal_at tokens.now) result }
 {
     let deep = first_deep(tokens);
-    let end = match deep {
-        Some(place) => place + 1,
-        None => tokens.len(),
-    };
-    let reader = Reader::new(tokens, end);
-    match (read_source(alloc, &reader), deep) {
-        (Ok(source), None) => Ok(source),
-        (Ok(_), Some(token)) => Err(ParseFault::TooDeep { token }),
-        (Err(Stop::NoMemory), _) => Err(ParseFault::NoMemory),
-        (Err(Stop::Stuck(token)), Some(brace)) if token > brace => {
-            Err(ParseFault::TooDeep { token: brace })
-        }
-        (Err(Stop::Stuck(token)), _) if reader.is_at(token, Terminal::Reserved) => {
-            Err(ParseFault::Unsupported { token })
-        }
-        (Err(Stop::Stuck(token)), _) => Err(ParseFault::Expected { token }),
+    let reader = reader_up_to(tokens, deep);
+    match read_source(alloc, &reader) {
+        Ok(source) => match deep {
+            None => Ok(source),
+            Some(token) => Err(ParseFault::TooDeep { token }),
+        },
+        Err(Stop::NoMemory) => Err(ParseFault::NoMemory),
+        Err(Stop::Stuck(token)) => Err(fault_at(&reader, token, deep)),
     }
 }
 
@@ -71,4 +64,33 @@ fn first_deep(tokens: &Tokens) -> Option<u32>
         }
     }
     None
+}
+
+/// A reader of all tokens, or of those up to a brace that is too deep: no text has them, and so
+/// reading stops there.
+fn reader_up_to(tokens: &Tokens, deep: Option<u32>) -> Reader
+    requires { IsFirstDeep (map terminal_at tokens.now) deep }
+    ensures { result ≡ readable (map terminal_at tokens.now) deep }
+{
+    let end = tokens.len();
+    match deep {
+        Some(place) => Reader::new(tokens, place + 1),
+        None => Reader::new(tokens, end),
+    }
+}
+
+/// The fault of a text where reading stopped at a token.
+fn fault_at(reader: &Reader, token: u32, deep: Option<u32>) -> ParseFault
+    ensures { FaultIs reader.now token deep result }
+{
+    if let Some(brace) = deep {
+        if token > brace {
+            return ParseFault::TooDeep { token: brace };
+        }
+    }
+    if reader.is_at(token, Terminal::Reserved) {
+        ParseFault::Unsupported { token }
+    } else {
+        ParseFault::Expected { token }
+    }
 }
