@@ -43,23 +43,23 @@ listed : {A : Type 0} (ts : List Terminal) (x : Symbol) (end : Terminal) (X : �
 listed ts x end X p into k m n s tail =
     let f = into k m s in
     closing ts x end (Commas ts X) p (λ j i l xs r c. (let q = into c.place l c.stands in (xs ++ q.0 ∷ [], next_item j i c.place l xs q.0 r c.is q.1)))
-        k m n (f.0 ∷ []) (first_item k m f.0 f.1) tail
+    k m n (f.0 ∷ []) (first_item k m f.0 f.1) tail
 
 parts_closed : (ts : List Terminal) (k m n : ℕ) → Stands ts expr k m → Stands ts (more expr CloseBrace) m n → (es : List Expr) × Closed ts (IsParts ts) CloseBrace k n es
 parts_closed ts k m n s tail =
     closing ts expr CloseBrace (IsParts ts) refl (λ j i l es r c. (es ++ c.stands.0 ∷ [], grammar.part_next j i c.place l es c.stands.0 r c.is c.stands.1))
-        k m n (s.0 ∷ []) (grammar.part_first k m s.0 s.1) tail
+    k m n (s.0 ∷ []) (grammar.part_first k m s.0 s.1) tail
 
 lefts_closed : (ts : List Terminal) (k m n : ℕ) → Stands ts left k m → Stands ts (more left CloseBrace) m n → (es : List Expr) × Closed ts (IsLefts ts) CloseBrace k n es
 lefts_closed ts k m n s tail =
     closing ts left CloseBrace (IsLefts ts) refl (λ j i l es r c. (es ++ c.stands.0 ∷ [], grammar.left_next j i c.place l es c.stands.0 r c.is c.stands.1))
-        k m n (s.0 ∷ []) (grammar.left_first k m s.0 s.1) tail
+    k m n (s.0 ∷ []) (grammar.left_first k m s.0 s.1) tail
 
 terminals_closed : (ts : List Terminal) (k a b c n : ℕ) → Stands ts expr k a → Is ts a Comma b → Stands ts expr b c → Stands ts (more expr CloseParen) c n →
     (es : List Expr) × Closed ts (IsTerminals ts) CloseParen k n es
 terminals_closed ts k a b c n x i y tail =
     closing ts expr CloseParen (IsTerminals ts) refl extend k c n (x.0 ∷ y.0 ∷ [])
-        (grammar.terminals k c (x.0 ∷ y.0 ∷ []) (next_item k a b c (x.0 ∷ []) y.0 (first_item k a x.0 x.1) i y.1) (omega arith)) tail
+    (grammar.terminals k c (x.0 ∷ y.0 ∷ []) (next_item k a b c (x.0 ∷ []) y.0 (first_item k a x.0 x.1) i y.1) (omega arith)) tail
   where
     extend : (j i l : ℕ) (es : List Expr) → IsTerminals ts j i es → CommaThen ts (Stands ts expr) i l → (fs : List Expr) × IsTerminals ts j l fs
     extend j i l es r c = go j i es r c
@@ -149,9 +149,10 @@ back_label ts _ k e = (None, absent k)
 
 back_prim : (ts : List Terminal) (t : Terminal) (k : ℕ) → slice_get ts k ≡ Some t → Back ts prim k (after_prim t)
 back_prim ts Name k e = λ n d.
-    (let es = terminals_closed ts d.0 d.2.0 d.2.2.0 d.2.2.2.0 n d.2.1 (exactly Comma refl d.2.2.1) d.2.2.2.1 d.2.2.2.2 in
-    (record { name = Some k; terminals = es.0 },
-      grammar.prim k (k + 1) d.0 es.1.place n (Some k) es.0 (present k (k + 1) k (grammar.name k (k + 1) (is_at e))) (exactly OpenParen refl d.1) es.1.stands es.1.ends))
+    (let es = terminals_closed ts d.0 d.2.0 d.2.2.0 d.2.2.2.0 n d.2.1 (exactly Comma refl d.2.2.1) d.2.2.2.1 d.2.2.2.2 in (
+      record { name = Some k; terminals = es.0 },
+      grammar.prim k (k + 1) d.0 es.1.place n (Some k) es.0 (present k (k + 1) k (grammar.name k (k + 1) (is_at e))) (exactly OpenParen refl d.1) es.1.stands es.1.ends,
+    ))
 back_prim ts OpenParen k e = λ n d.
     (let es = terminals_closed ts (k + 1) d.0 d.2.0 d.2.2.0 n d.1 (exactly Comma refl d.2.1) d.2.2.1 d.2.2.2 in
     (record { name = None; terminals = es.0 }, grammar.prim k k (k + 1) es.1.place n None es.0 (absent k) (is_at e) es.1.stands es.1.ends))
@@ -163,9 +164,10 @@ back_inst ts Name k e = λ n d.
 back_inst ts _ k e = tt
 
 back_link : (ts : List Terminal) (t : Terminal) (k : ℕ) → slice_get ts k ≡ Some t → Back ts link k (after_link t)
-back_link ts Dot k e = λ n d.
-    (record { port = k + 1; expr = d.2.2.1.0 },
-      grammar.link k (k + 1) d.0 d.2.0 d.2.2.0 n d.2.2.1.0 (is_at e) (exactly Name refl d.1) (exactly OpenParen refl d.2.1) d.2.2.1.1 (exactly CloseParen refl d.2.2.2))
+back_link ts Dot k e = λ n d. (
+  record { port = k + 1; expr = d.2.2.1.0 },
+  grammar.link k (k + 1) d.0 d.2.0 d.2.2.0 n d.2.2.1.0 (is_at e) (exactly Name refl d.1) (exactly OpenParen refl d.2.1) d.2.2.1.1 (exactly CloseParen refl d.2.2.2),
+)
 back_link ts _ k e = tt
 
 -- connections by order, where the parentheses are not empty
@@ -185,10 +187,10 @@ back_links : (ts : List Terminal) (t : Terminal) (k : ℕ) → slice_get ts k �
 back_links ts CloseParen k e = λ n d. (connections.Empty, record { place = k; stands = grammar.no_links k; ends = is_last e d })
 back_links ts Comma k e = λ n d.
     ordered_back ts k n (λ f. cc)
-        (closing ts place CloseParen (Commas ts (Optional (IsExpr ts))) refl
-            (λ j i l xs r c. (xs ++ c.stands.0 ∷ [], next_item j i c.place l xs c.stands.0 r c.is c.stands.1))
-            k d.0 n (None ∷ d.1.0 ∷ [])
-            (next_item k k (k + 1) d.0 (None ∷ []) d.1.0 (first_item k k None (absent k)) (is_at e) d.1.1) d.2)
+    (closing ts place CloseParen (Commas ts (Optional (IsExpr ts))) refl
+    (λ j i l xs r c. (xs ++ c.stands.0 ∷ [], next_item j i c.place l xs c.stands.0 r c.is c.stands.1))
+    k d.0 n (None ∷ d.1.0 ∷ [])
+    (next_item k k (k + 1) d.0 (None ∷ []) d.1.0 (first_item k k None (absent k)) (is_at e) d.1.1) d.2)
 back_links ts Dot k e = λ n d.
     (let ls = listed ts link CloseParen (IsLink ts) refl (λ j i p. p) k d.2.2.2.0 n (back_link ts Dot k e d.2.2.2.0 (d.0, d.1, (d.2.0, d.2.1, (d.2.2.0, d.2.2.1, d.2.2.2.1)))) d.2.2.2.2 in
     (connections.Named ls.0, record { place = ls.1.place; stands = grammar.by_name k ls.1.place ls.0 ls.1.stands; ends = ls.1.ends }))
@@ -202,10 +204,11 @@ back_wire ts Wire k e = λ n d. grammar.a_wire k n (is_last e d)
 back_wire ts _ k e = grammar.no_wire k
 
 back_range : (ts : List Terminal) (t : Terminal) (k : ℕ) → slice_get ts k ≡ Some t → Back ts range k (after_range t)
-back_range ts OpenBracket k e = λ n d.
-    (Some (record { left = d.1.0; right = d.2.2.1.0 }),
-      present k n (record { left = d.1.0; right = d.2.2.1.0 })
-          (grammar.range k (k + 1) d.0 d.2.0 d.2.2.0 n d.1.0 d.2.2.1.0 (is_at e) d.1.1 (exactly Colon refl d.2.1) d.2.2.1.1 (exactly CloseBracket refl d.2.2.2)))
+back_range ts OpenBracket k e = λ n d. (
+  Some (record { left = d.1.0; right = d.2.2.1.0 }),
+  present k n (record { left = d.1.0; right = d.2.2.1.0 })
+      (grammar.range k (k + 1) d.0 d.2.0 d.2.2.0 n d.1.0 d.2.2.1.0 (is_at e) d.1.1 (exactly Colon refl d.2.1) d.2.2.1.1 (exactly CloseBracket refl d.2.2.2)),
+)
 back_range ts _ k e = (None, absent k)
 
 back_one : (ts : List Terminal) (t : Terminal) (k : ℕ) → slice_get ts k ≡ Some t → Back ts one k (after_one t)
@@ -223,7 +226,7 @@ back_header ts CloseParen k e = λ n d. ([], record { place = k; stands = gramma
 back_header ts (Direction dir) k e = λ n d. ports_closed ts k d.2.2.0 n (back_one ts (Direction dir) k e d.2.2.0 (d.0, d.1, (d.2.0, d.2.1, d.2.2.1))) d.2.2.2
 back_header ts Name k e = λ n d.
     (let ps = listed ts (due Name) CloseParen (IsPlainPort ts) refl (λ j i s. (record { name = j; dir = None; range = None }, grammar.plain_port j i (exactly Name refl s))) k (k + 1) n
-        (record { which = Name; is = is_at e; same = refl }) d in
+    (record { which = Name; is = is_at e; same = refl }) d in
     (ps.0, record { place = ps.1.place; stands = grammar.names k ps.1.place ps.0 ps.1.stands; ends = ps.1.ends }))
 back_header ts _ k e = tt
 
@@ -279,9 +282,10 @@ back_items ts _ k e = tt
 back_module : (ts : List Terminal) (t : Terminal) (k : ℕ) → slice_get ts k ≡ Some t →
     Back ts module_ k (then_due (after_due Module t) (due Name ∷ ports ∷ due Semicolon ∷ items ∷ []))
 back_module ts Module k e = λ n d.
-    (let is = items_closed ts d.2.2.0 d.2.2.0 n [] (none d.2.2.0) d.2.2.2 in
-    (record { name = k + 1; ports = d.2.1.0; items = is.0 },
-      grammar.module_ k (k + 1) d.0 d.2.0 d.2.2.0 is.1.place n d.2.1.0 is.0 (is_at e) (exactly Name refl d.1) d.2.1.1 (exactly Semicolon refl d.2.2.1) is.1.stands is.1.ends))
+    (let is = items_closed ts d.2.2.0 d.2.2.0 n [] (none d.2.2.0) d.2.2.2 in (
+      record { name = k + 1; ports = d.2.1.0; items = is.0 },
+      grammar.module_ k (k + 1) d.0 d.2.0 d.2.2.0 is.1.place n d.2.1.0 is.0 (is_at e) (exactly Name refl d.1) d.2.1.1 (exactly Semicolon refl d.2.2.1) is.1.stands is.1.ends,
+    ))
 back_module ts _ k e = tt
 
 back_source : (ts : List Terminal) (t : Terminal) (k : ℕ) → slice_get ts k ≡ Some t →

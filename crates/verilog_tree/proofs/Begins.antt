@@ -156,7 +156,7 @@ alike ts k a b h n = record { leads = λ below. go below (slice_get ts k) refl }
     go below None e = rw (drop_end ts k e) (ap (λ (v : Bool). if v then None else Some []) (h below e))
     go below (Some t) e =
         rw (drop_here ts k t e)
-            (ap (λ (o : Option (List Symbol)). elim o [ None ↦ Some (t ∷ drop (k + 1) ts) | Some later ↦ fault later (drop (k + 1) ts) ]) (n below t e))
+        (ap (λ (o : Option (List Symbol)). elim o [ None ↦ Some (t ∷ drop (k + 1) ts) | Some later ↦ fault later (drop (k + 1) ts) ]) (n below t e))
 
 pub place_begins : (ts : List Terminal) (k : ℕ) → starts (slice_get ts k) ≡ true → Leads ts (place ∷ []) k (expr ∷ []) k
 place_begins ts k some = alike ts k (place ∷ []) (expr ∷ []) (λ below e. (let no : false ≡ true = ap starts (sym e) ∙ some in cc)) (λ below t e. go below t (ap starts (sym e) ∙ some))

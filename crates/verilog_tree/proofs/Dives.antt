@@ -56,7 +56,7 @@ pub seen : (tokens : List Token) (us : List Terminal) (n k : ℕ) → us ≡ tak
     slice_get us k ≡ slice_get (map terminal_at tokens) k
 seen tokens us n k e f =
     ap (λ l. slice_get l k)
-        (e ∙ take_all n (map terminal_at tokens) (let g : length (map terminal_at tokens) ≡ length tokens = length-map tokens terminal_at in omega arith))
+    (e ∙ take_all n (map terminal_at tokens) (let g : length (map terminal_at tokens) ≡ length tokens = length-map tokens terminal_at in omega arith))
 
 -- a brace for which no room is left
 pub scan_stops : (ts : List Terminal) (k room : ℕ) → Scans ts k room → slice_get ts k ≡ Some OpenBrace → room ≡ 0 →
@@ -70,7 +70,7 @@ scan_open ts k (suc room) s e z =
     let same : suc room - 1 ≡ room = omega arith in
     record {
       goes = s.goes ∙ dives_step ts (suc room) room k OpenBrace e refl ∙ ap (λ (r : ℕ). dives r (drop (k + 1) ts)) (sym same);
-      few = (let f = s.few in omega arith)
+      few = (let f = s.few in omega arith);
     }
 
 close_after : (room : ℕ) → room_after room CloseBrace ≡ Some (room + 1)
@@ -80,7 +80,7 @@ close_after (suc room) = refl
 pub scan_close : (ts : List Terminal) (k room : ℕ) → Scans ts k room → slice_get ts k ≡ Some CloseBrace → Scans ts (k + 1) (room + 1)
 scan_close ts k room s e = record {
   goes = s.goes ∙ dives_step ts room (room + 1) k CloseBrace e (close_after room);
-  few = (let f = s.few in omega arith)
+  few = (let f = s.few in omega arith);
 }
 
 other_after : (room : ℕ) (t : Terminal) → (t ≡ OpenBrace → ⊥) → (t ≡ CloseBrace → ⊥) → room_after room t ≡ Some room

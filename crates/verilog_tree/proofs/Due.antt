@@ -15,7 +15,7 @@ use Rattle.verilog_tree.specs.declared.reader.Stop.TheVariants as Stop
 pub drop_here : (ts : List Terminal) (k : ℕ) (t : Terminal) → slice_get ts k ≡ Some t → drop k ts ≡ t ∷ drop (k + 1) ts
 drop_here ts k t e =
     rw (add-one k)
-        (drop-cons ts k t (slice_get_within ts k t e) ∙ ap (λ x. x ∷ drop (suc k) ts) (get_or_from_slice_get ts k t t e))
+    (drop-cons ts k t (slice_get_within ts k t e) ∙ ap (λ x. x ∷ drop (suc k) ts) (get_or_from_slice_get ts k t t e))
 
 pub drop_end : (ts : List Terminal) (k : ℕ) → slice_get ts k ≡ None → drop k ts ≡ []
 drop_end ts k e =
@@ -39,8 +39,8 @@ pub begins : {ts : List Terminal} {k : ℕ} {t : Terminal} {s : Symbol} (parts r
 begins {ts} {k} {t} {s} parts rest e b = record {
   leads = λ below.
       ap (fault (s ∷ (rest ++ below))) (drop_here ts k t e)
-          ∙ fault_at s (rest ++ below) t (drop (k + 1) ts) (Begins parts) b
-          ∙ ap (λ x. fault x (drop (k + 1) ts)) (sym (append_assoc parts rest below))
+      ∙ fault_at s (rest ++ below) t (drop (k + 1) ts) (Begins parts) b
+      ∙ ap (λ x. fault x (drop (k + 1) ts)) (sym (append_assoc parts rest below));
 }
 
 -- a terminal that shows that a part is absent
@@ -49,8 +49,8 @@ skips_here : {ts : List Terminal} {k : ℕ} {t : Terminal} {s : Symbol} (rest : 
 skips_here {ts} {k} {t} {s} rest e b = record {
   leads = λ below.
       ap (fault (s ∷ (rest ++ below))) (drop_here ts k t e)
-          ∙ fault_at s (rest ++ below) t (drop (k + 1) ts) Skips b
-          ∙ ap (fault (rest ++ below)) (sym (drop_here ts k t e))
+      ∙ fault_at s (rest ++ below) t (drop (k + 1) ts) Skips b
+      ∙ ap (fault (rest ++ below)) (sym (drop_here ts k t e));
 }
 
 skips_end : {ts : List Terminal} {k : ℕ} {s : Symbol} (rest : List Symbol) →
@@ -58,8 +58,8 @@ skips_end : {ts : List Terminal} {k : ℕ} {s : Symbol} (rest : List Symbol) →
 skips_end {ts} {k} {s} rest e b = record {
   leads = λ below.
       ap (fault (s ∷ (rest ++ below))) (drop_end ts k e)
-          ∙ ap (λ v. if (v && is_end (rest ++ below)) then None else Some []) b
-          ∙ ap (fault (rest ++ below)) (sym (drop_end ts k e))
+      ∙ ap (λ v. if (v && is_end (rest ++ below)) then None else Some []) b
+      ∙ ap (fault (rest ++ below)) (sym (drop_end ts k e));
 }
 
 -- a part is absent where no terminal begins it
@@ -77,9 +77,9 @@ wrong_here : {ts : List Terminal} {k : ℕ} {t : Terminal} {s : Symbol} (rest : 
 wrong_here {ts} {k} {t} {s} rest w e b = record {
   stuck = λ below.
       ap (fault (s ∷ (rest ++ below))) (drop_here ts k t e)
-          ∙ fault_at s (rest ++ below) t (drop (k + 1) ts) Wrong b
-          ∙ ap Some (sym (drop_here ts k t e));
-  inside = w
+      ∙ fault_at s (rest ++ below) t (drop (k + 1) ts) Wrong b
+      ∙ ap Some (sym (drop_here ts k t e));
+  inside = w;
 }
 
 wrong_end : {ts : List Terminal} {k : ℕ} {s : Symbol} (rest : List Symbol) →
@@ -87,15 +87,15 @@ wrong_end : {ts : List Terminal} {k : ℕ} {s : Symbol} (rest : List Symbol) →
 wrong_end {ts} {k} {s} rest w e b = record {
   stuck = λ below.
       ap (fault (s ∷ (rest ++ below))) (drop_end ts k e)
-          ∙ ap (λ v. if (v && is_end (rest ++ below)) then None else Some []) b
-          ∙ ap Some (sym (drop_end ts k e));
-  inside = w
+      ∙ ap (λ v. if (v && is_end (rest ++ below)) then None else Some []) b
+      ∙ ap Some (sym (drop_end ts k e));
+  inside = w;
 }
 
 pub wrong : (ts : List Terminal) (k : ℕ) (s : Symbol) (rest : List Symbol) → k ≤ length ts → may_vanish s ≡ false →
     ((t : Terminal) → slice_get ts k ≡ Some t → after s t ≡ Wrong) → Fails ts (s ∷ rest) k (Stop.Stuck k)
 wrong ts k s rest w v h = record {
-  sticks = λ p e. let same : k ≡ p = cc in subst (λ (q : ℕ). Sticks ts (s ∷ rest) k q) same (go (slice_get ts k) refl)
+  sticks = λ p e. let same : k ≡ p = cc in subst (λ (q : ℕ). Sticks ts (s ∷ rest) k q) same (go (slice_get ts k) refl);
 }
   where
     go : (o : Option Terminal) → slice_get ts k ≡ o → Sticks ts (s ∷ rest) k k
@@ -119,8 +119,8 @@ unfolds_at : (s x : Symbol) (rest below : List Symbol) (t : Terminal) (ts : List
     after s t ≡ then_due (after x t) rest → fault (s ∷ below) (t ∷ ts) ≡ fault (x ∷ (rest ++ below)) (t ∷ ts)
 unfolds_at s x rest below t ts (Begins parts) e no_skip h =
     fault_at s below t ts (Begins (parts ++ rest)) (h ∙ ap (λ c. then_due c rest) e)
-        ∙ ap (λ p. fault p ts) (append_assoc parts rest below)
-        ∙ sym (fault_at x (rest ++ below) t ts (Begins parts) e)
+    ∙ ap (λ p. fault p ts) (append_assoc parts rest below)
+    ∙ sym (fault_at x (rest ++ below) t ts (Begins parts) e)
 unfolds_at s x rest below t ts Skips e no_skip h = absurd (no_skip refl)
 unfolds_at s x rest below t ts Wrong e no_skip h =
     fault_at s below t ts Wrong (h ∙ ap (λ c. then_due c rest) e) ∙ sym (fault_at x (rest ++ below) t ts Wrong e)
@@ -133,24 +133,24 @@ unfolds ts k s x rest v w no_skip h = record { leads = λ below. go below (slice
     go : (below : List Symbol) (o : Option Terminal) → slice_get ts k ≡ o → fault (s ∷ below) (drop k ts) ≡ fault (x ∷ (rest ++ below)) (drop k ts)
     go below None e =
         ap (fault (s ∷ below)) (drop_end ts k e)
-            ∙ ap (λ b. if (b && is_end below) then None else Some []) v
-            ∙ sym (ap (λ b. if (b && is_end (rest ++ below)) then None else Some []) w)
-            ∙ sym (ap (fault (x ∷ (rest ++ below))) (drop_end ts k e))
+        ∙ ap (λ b. if (b && is_end below) then None else Some []) v
+        ∙ sym (ap (λ b. if (b && is_end (rest ++ below)) then None else Some []) w)
+        ∙ sym (ap (fault (x ∷ (rest ++ below))) (drop_end ts k e))
     go below (Some t) e =
         ap (fault (s ∷ below)) (drop_here ts k t e)
-            ∙ unfolds_at s x rest below t (drop (k + 1) ts) (after x t) refl (no_skip t) (h t e)
-            ∙ sym (ap (fault (x ∷ (rest ++ below))) (drop_here ts k t e))
+        ∙ unfolds_at s x rest below t (drop (k + 1) ts) (after x t) refl (no_skip t) (h t e)
+        ∙ sym (ap (fault (x ∷ (rest ++ below))) (drop_here ts k t e))
 
 -- where a later part fails, the whole does
 pub fails_from : {ts : List Terminal} {a b : List Symbol} {k m : ℕ} {stop : StopOf} → Leads ts a k b m → Fails ts b m stop → Fails ts a k stop
 fails_from l f = record {
-  sticks = λ p e. let g = f.sticks p e in record { stuck = λ below. l.leads below ∙ g.stuck below; inside = g.inside }
+  sticks = λ p e. let g = f.sticks p e in record { stuck = λ below. l.leads below ∙ g.stuck below; inside = g.inside };
 }
 
 pub fails_two : {ts : List Terminal} {from : List Symbol} {k m : ℕ} {s s' : Symbol} {rest : List Symbol} {stop : StopOf} →
     Leads ts from k (s ∷ s' ∷ rest) m → Fails ts (s ∷ s' ∷ []) m stop → Fails ts from k stop
 fails_two {rest = rest} a f = record {
-  sticks = λ p e. let g = f.sticks p e in record { stuck = λ below. a.leads below ∙ g.stuck (rest ++ below); inside = g.inside }
+  sticks = λ p e. let g = f.sticks p e in record { stuck = λ below. a.leads below ∙ g.stuck (rest ++ below); inside = g.inside };
 }
 
 -- the answer of a part that is the whole from here on
@@ -160,14 +160,14 @@ answers_from X Y (Ok r) l w into f = record {
   stands = into r.next r.node f.stands;
   goes = follow l f.goes;
   forward = (let g = f.forward in omega arith);
-  inside = f.inside
+  inside = f.inside;
 }
 answers_from X Y (Err stop) l w into f = fails_from l f
 
 pub fails_after : {ts : List Terminal} {from : List Symbol} {k m : ℕ} {s : Symbol} {rest : List Symbol} {stop : StopOf} →
     Leads ts from k (s ∷ rest) m → Fails ts (s ∷ []) m stop → Fails ts from k stop
 fails_after {rest = rest} a f = record {
-  sticks = λ p e. let g = f.sticks p e in record { stuck = λ below. a.leads below ∙ g.stuck (rest ++ below); inside = g.inside }
+  sticks = λ p e. let g = f.sticks p e in record { stuck = λ below. a.leads below ∙ g.stuck (rest ++ below); inside = g.inside };
 }
 
 pub fails_memory : (ts : List Terminal) (parts : List Symbol) (k : ℕ) (stop : StopOf) → stop ≡ Stop.NoMemory → Fails ts parts k stop

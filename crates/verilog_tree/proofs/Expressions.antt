@@ -23,7 +23,7 @@ expr_constant ts k e = record {
   stands = grammar.expr_constant k (k + 1) (record { here = e; after = refl });
   goes = begins [] [] e refl;
   forward = omega arith;
-  inside = here_within ts k Constant e
+  inside = here_within ts k Constant e;
 }
 
 pub expr_brace : (ts : List Terminal) (k : ℕ) (r : Result (Read Expr) StopOf) → slice_get ts k ≡ Some OpenBrace →
@@ -71,7 +71,7 @@ join_read ts start n es e not_number r = record {
   stands = grammar.expr_join start (start + 1) r.stands.place n es (record { here = e; after = refl }) r.stands.stands r.stands.ends;
   goes = follow (join_begins ts (start + 1) not_number) r.goes;
   forward = r.forward;
-  inside = r.inside
+  inside = r.inside;
 }
 
 repeat_begins : {ts : List Terminal} {k count : ℕ} → slice_get ts k ≡ Some (Number count) →
@@ -100,7 +100,7 @@ repeat_read ts start count a b n es e c o r z = record {
       (record { here = e; after = refl }) (record { here = c; after = refl }) o.is r.stands.stands r.stands.ends z.is;
   goes = passes (passes_two (passes (repeat_begins c) o.goes) r.goes) z.goes;
   forward = (let f : a ≡ start + 1 + 1 + 1 = o.is.after in let g : a ≤ b = r.forward in let h : n ≡ b + 1 = z.is.after in omega arith);
-  inside = z.inside
+  inside = z.inside;
 }
 
 pub ruleset braces = (join_fails, repeat_open, repeat_parts, repeat_close)

@@ -13,7 +13,7 @@ use Rattle.verilog_tree.proofs.Due.{passes, follow, fails_after, fails_from, ans
 pub first_fails : (ts : List Terminal) (x : Symbol) (end : Terminal) (k : ℕ) (stop : StopOf) →
     Fails ts (x ∷ []) k stop → Fails ts (x ∷ more x end ∷ []) k stop
 first_fails ts x end k stop f = record {
-  sticks = λ p e. let g = f.sticks p e in record { stuck = λ below. g.stuck (more x end ∷ below); inside = g.inside }
+  sticks = λ p e. let g = f.sticks p e in record { stuck = λ below. g.stuck (more x end ∷ below); inside = g.inside };
 }
 
 module _ {A : Type 0} {ts : List Terminal} {parts : List Symbol} {x : Symbol} {end : Terminal} {X : ℕ → ℕ → A → Type 0} {k n : ℕ} {items : A} (so_far : Gathers ts parts x end X k n items) where
@@ -31,7 +31,7 @@ module _ {A : Type 0} {ts : List Terminal} {parts : List Symbol} {x : Symbol} {e
     stands = record { place = n; stands = so_far.stands; ends = c.is };
     goes = follow so_far.goes (c.goes x);
     forward = (let f = so_far.forward in omega arith);
-    inside = c.inside
+    inside = c.inside;
   }
 
 -- the first item is read
@@ -41,7 +41,7 @@ gathers_first {x = x} {end = end} into r = record {
   stands = into r.stands;
   goes = record { leads = λ below. r.goes.leads (more x end ∷ below) };
   forward = r.forward;
-  inside = r.inside
+  inside = r.inside;
 }
 
 -- another item is read
@@ -52,7 +52,7 @@ gathers_next {x = x} into g s r = record {
   stands = into g.stands s.is r.stands;
   goes = passes (follow g.goes (s.goes x)) r.goes;
   forward = (let f = g.forward in let h = r.forward in omega arith);
-  inside = r.inside
+  inside = r.inside;
 }
 
 pub rest_first : {A : Type 0} {ts : List Terminal} (x : Symbol) (end : Terminal) (X : ℕ → ℕ → A → Type 0) (k : ℕ) (items : List A) → k ≤ length ts →
@@ -64,7 +64,7 @@ pub rest_next : {A : Type 0} {ts : List Terminal} {x : Symbol} {end : Terminal} 
     Gathers ts (more x end ∷ []) x end (Extends ts X first) k n later
 rest_next {ts = ts} {x = x} {end = end} {X = X} {k = k} {m = m} {n = n} {a = a} first {items = items} f g s r =
     subst (λ l. Gathers ts (more x end ∷ []) x end (Extends ts X first) k n l) (sym f)
-        (gathers_next {X = X} {Y = Extends ts X first} (λ e i h. record { goes_on = λ j c. next_item j m (m + 1) n items a (e.goes_on j c) i h; longer = (let w = e.longer in simp length-append (omega arith)) }) g s r)
+    (gathers_next {X = X} {Y = Extends ts X first} (λ e i h. record { goes_on = λ j c. next_item j m (m + 1) n items a (e.goes_on j c) i h; longer = (let w = e.longer in simp length-append (omega arith)) }) g s r)
 
 -- what a look after an item answered
 pub separates : (ts : List Terminal) (end : Terminal) (k : ℕ) (b : Bool) → b ≡ true → Continues ts end k (Ok b) → Separates ts end k
@@ -101,12 +101,12 @@ list_answers ts x end X k m a none items (Ok r) e f first rest = record {
   stands = record {
     place = rest.stands.place;
     stands = rest.stands.stands.goes_on k (subst (λ l. Commas ts X k m l) (sym (f ∙ ap (λ l. l ++ a ∷ []) e)) (first_item k m a first.stands));
-    ends = rest.stands.ends
+    ends = rest.stands.ends;
   };
   goes = record { leads = λ below. first.goes.leads (more x end ∷ below) ∙ rest.goes.leads below };
   forward = (let g = first.forward in let h = rest.forward in omega arith);
-  inside = rest.inside
+  inside = rest.inside;
 }
 list_answers ts x end X k m a none items (Err stop) e f first rest = record {
-  sticks = λ p g. let h = rest.sticks p g in record { stuck = λ below. first.goes.leads (more x end ∷ below) ∙ h.stuck below; inside = h.inside }
+  sticks = λ p g. let h = rest.sticks p g in record { stuck = λ below. first.goes.leads (more x end ∷ below) ∙ h.stuck below; inside = h.inside };
 }

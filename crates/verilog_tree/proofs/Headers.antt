@@ -20,14 +20,14 @@ head_absent ts k ps w e not_open = record {
   stands = subst (λ l. IsHead ts k k l) (sym e) (grammar.no_head k);
   goes = ports_absent ts k not_open;
   forward = omega arith;
-  inside = w
+  inside = w;
 }
 
 pub head_answers : (ts : List Terminal) (k : ℕ) (r : Result (Read (List PortName)) StopOf) → slice_get ts k ≡ Some OpenParen →
     Answers ts (header ∷ []) (Closed ts (IsHeader ts) CloseParen) (k + 1) r → Answers ts (ports ∷ []) (IsHead ts) k r
 head_answers ts k r e f =
     answers_from (Closed ts (IsHeader ts) CloseParen) (IsHead ts) r (ports_begin e) (omega arith)
-        (λ n ps h. grammar.head k (k + 1) h.place n ps (record { here = e; after = refl }) h.stands h.ends) f
+    (λ n ps h. grammar.head k (k + 1) h.place n ps (record { here = e; after = refl }) h.stands h.ends) f
 
 pub header_none : (ts : List Terminal) (k : ℕ) (ps : List PortName) → ps ≡ [] → slice_get ts k ≡ Some CloseParen →
     Reads ts (header ∷ []) (Closed ts (IsHeader ts) CloseParen) k (k + 1) ps
@@ -35,7 +35,7 @@ header_none ts k ps e close = record {
   stands = record { place = k; stands = subst (λ l. IsHeader ts k k l) (sym e) (grammar.no_header k); ends = record { here = close; after = refl } };
   goes = header_end close;
   forward = omega arith;
-  inside = here_within ts k CloseParen close
+  inside = here_within ts k CloseParen close;
 }
 
 pub header_of_directions : (ts : List Terminal) (k : ℕ) (d : Dir) (r : Result (Read (List PortName)) StopOf) → slice_get ts k ≡ Some (Direction d) →
@@ -49,7 +49,7 @@ pub header_of_names : (ts : List Terminal) (k : ℕ) (r : Result (Read (List Por
     Answers ts (header ∷ []) (Closed ts (IsHeader ts) CloseParen) k r
 header_of_names ts k r not_close not_direction f =
     answers_from (Closed ts (Commas ts (IsPlainPort ts)) CloseParen) (Closed ts (IsHeader ts) CloseParen) r (header_names ts k not_close not_direction) (omega arith)
-        (λ n ps h. record { place = h.place; stands = grammar.names k h.place ps h.stands; ends = h.ends }) f
+    (λ n ps h. record { place = h.place; stands = grammar.names k h.place ps h.stands; ends = h.ends }) f
 
 pub one_wrong : (ts : List Terminal) (k : ℕ) → k ≤ length ts → ((d : Dir) → slice_get ts k ≡ Some (Direction d) → ⊥) → Fails ts (one ∷ []) k (Stop.Stuck k)
 one_wrong ts k w not_direction = wrong ts k one [] w refl go
@@ -64,7 +64,7 @@ port_bare ts k before e = record {
   stands = bare k (k + 1) (record { here = e; after = refl });
   goes = port_name e;
   forward = omega arith;
-  inside = here_within ts k Name e
+  inside = here_within ts k Name e;
 }
 
 pub port_answers : (ts : List Terminal) (k : ℕ) (before : PortName) (r : Result (Read PortName) StopOf) → (slice_get ts k ≡ Some Name → ⊥) →
@@ -82,7 +82,7 @@ ports_first {ts} {k} {n} {p} {none} {ps} e f r = record {
   stands = subst (λ l. IsPorts ts k n p l) (sym (f ∙ ap (λ l. l ++ p ∷ []) e)) (grammar.first_port k n p r.stands);
   goes = passes stays r.goes;
   forward = r.forward;
-  inside = r.inside
+  inside = r.inside;
 }
 
 later : (ts : List Terminal) (k m n : ℕ) (q p : PortName) (ps : List PortName) → IsPorts ts k m q ps → Is ts m Comma (m + 1) → IsLater ts q (m + 1) n p → IsPorts ts k n p (ps ++ p ∷ [])
@@ -98,7 +98,7 @@ ports_next {ts} {k} {m} {n} {q} {p} {ps} e g s r = record {
   stands = subst (λ l. IsPorts ts k n p l) (sym e) (later ts k m n q p ps g.stands s.is r.stands);
   goes = passes (follow g.goes (s.goes port)) r.goes;
   forward = (let f = g.forward in let h = r.forward in omega arith);
-  inside = r.inside
+  inside = r.inside;
 }
 
 pub ports_read : {ts : List Terminal} {k m : ℕ} {q : PortName} {ps : List PortName} → PortsSo ts k m q ps → Closes ts CloseParen m →
@@ -107,5 +107,5 @@ ports_read {ts} {k} {m} {q} {ps} g c = let r = gathers_end g c in record {
   stands = record { place = r.stands.place; stands = grammar.directions k r.stands.place q ps r.stands.stands; ends = r.stands.ends };
   goes = r.goes;
   forward = r.forward;
-  inside = r.inside
+  inside = r.inside;
 }

@@ -45,7 +45,7 @@ items_start ts k is w e = record {
   stands = subst (λ l. Many (IsItem ts) k k l) (sym e) (none k);
   goes = record { leads = λ below. refl };
   forward = omega arith;
-  inside = w
+  inside = w;
 }
 
 pub items_next : {ts : List Terminal} {k m n : ℕ} {i : Item} {is later : List Item} → later ≡ is ++ i ∷ [] → (slice_get ts m ≡ Some EndModule → ⊥) →
@@ -54,7 +54,7 @@ items_next {ts} {k} {m} {n} {i} {is} {later} e not_end g r = record {
   stands = subst (λ l. Many (IsItem ts) k n l) (sym e) (another k m n is i g.stands r.stands);
   goes = passes (follow g.goes (items_item ts m not_end)) r.goes;
   forward = (let f = g.forward in let h = r.forward in omega arith);
-  inside = r.inside
+  inside = r.inside;
 }
 
 pub items_read : {ts : List Terminal} {k m : ℕ} {is : List Item} → slice_get ts m ≡ Some EndModule → Gathered ts k m is →
@@ -63,5 +63,5 @@ items_read {ts} {k} {m} e g = record {
   stands = record { place = m; stands = g.stands; ends = record { here = e; after = refl } };
   goes = follow g.goes (items_end e);
   forward = (let f = g.forward in omega arith);
-  inside = here_within ts m EndModule e
+  inside = here_within ts m EndModule e;
 }

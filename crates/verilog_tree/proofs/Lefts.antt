@@ -41,7 +41,7 @@ left_read ts k n es e r = record {
   stands = grammar.left_join k (k + 1) r.stands.place n es (record { here = e; after = refl }) r.stands.stands r.stands.ends;
   goes = follow (left_begins e) r.goes;
   forward = (let f : k + 1 ≤ n = r.forward in omega arith);
-  inside = r.inside
+  inside = r.inside;
 }
 
 pub ruleset lefts = (left_named, left_wrong, left_fails)

@@ -30,7 +30,7 @@ pub modules_start : (ts : List Terminal) (ms : List ModuleTree) → ms ≡ [] �
 modules_start ts ms e = record {
   stands = subst (λ l. Many (IsModule ts) 0 0 l) (sym e) (none 0);
   goes = record { leads = λ below. refl };
-  inside = omega arith
+  inside = omega arith;
 }
 
 pub modules_next : {ts : List Terminal} {m n : ℕ} {x : ModuleTree} {ms later : List ModuleTree} → later ≡ ms ++ x ∷ [] → is_some (slice_get ts m) ≡ true →
@@ -38,7 +38,7 @@ pub modules_next : {ts : List Terminal} {m n : ℕ} {x : ModuleTree} {ms later :
 modules_next {ts} {m} {n} {x} {ms} {later} e some g r = record {
   stands = subst (λ l. Many (IsModule ts) 0 n l) (sym e) (another 0 m n ms x g.stands r.stands);
   goes = passes (follow g.goes (source_module ts m some)) r.goes;
-  inside = r.inside
+  inside = r.inside;
 }
 
 past : (ts : List Terminal) (n : ℕ) → slice_get ts n ≡ None → length ts ≤ n

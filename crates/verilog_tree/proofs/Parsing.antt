@@ -51,8 +51,8 @@ fault_of_part ts b p w h f =
     let q = stopped us p s.inside (s.stuck []) in
     let front : take p us ≡ take p ts = take-take p (b + 1) ts (omega arith) in
     first_fault ts p q.0 (omega arith) (subst (λ l. reach (source ∷ []) l ≡ Some q.0) front q.1.0)
-        (λ t e. refused us p q.0 q.1.1 t (slice_get_take ts (b + 1) p (omega arith) ∙ e))
-        (λ e. absurd (omega arith))
+    (λ t e. refused us p q.0 q.1.1 t (slice_get_take ts (b + 1) p (omega arith) ∙ e))
+    (λ e. absurd (omega arith))
 
 -- where reading stopped after that brace, a text goes on from it
 goes_on : (ts : List Terminal) (b p : ℕ) → b < length ts → b < p → Fails (take (b + 1) ts) (source ∷ []) 0 (Stop.Stuck p) → Begins (take (b + 1) ts)
@@ -80,8 +80,8 @@ explained ts (Some b) p (TooDeep c) d e i =
 explained ts (Some b) p (Expected q) d e i =
     let w : p ≤ b = i.2 b refl in
     subst (λ (r : ℕ). Explains ts (Err (Expected r))) (sym i.0)
-        (fault_of_part ts b p d.0 w e, (λ f. i.1 (slice_get_take ts (b + 1) p (omega arith) ∙ f)), dives_before ts 64 p b d.1 d.0 w)
+    (fault_of_part ts b p d.0 w e, (λ f. i.1 (slice_get_take ts (b + 1) p (omega arith) ∙ f)), dives_before ts 64 p b d.1 d.0 w)
 explained ts (Some b) p (Unsupported q) d e i =
     let w : p ≤ b = i.2 b refl in
     subst (λ (r : ℕ). Explains ts (Err (Unsupported r))) (sym i.0)
-        (fault_of_part ts b p d.0 w e, sym (slice_get_take ts (b + 1) p (omega arith)) ∙ i.1, dives_before ts 64 p b d.1 d.0 w)
+    (fault_of_part ts b p d.0 w e, sym (slice_get_take ts (b + 1) p (omega arith)) ∙ i.1, dives_before ts 64 p b d.1 d.0 w)

@@ -98,35 +98,35 @@ mutual
   expr_goes ts _ _ _ (expr_constant k n i) f = step [] i refl
   expr_goes ts _ _ _ (expr_join k a b n es i s z) f =
       follow (step (brace ∷ []) i refl)
-          (follow (join_begins ts a (no_number ts a (parts_start ts a b es s)))
-              (follow (parts_go ts a b es s (after_end z)) (more_ends ts expr CloseBrace b n (λ e. cc) z)))
+      (follow (join_begins ts a (no_number ts a (parts_start ts a b es s)))
+      (follow (parts_go ts a b es s (after_end z)) (more_ends ts expr CloseBrace b n (λ e. cc) z)))
   expr_goes ts _ _ _ (expr_repeat k a b c d e n v es i w o s z y) f =
       passes
-          (passes_two
-              (passes (follow (step (brace ∷ []) i refl) (step (due OpenBrace ∷ expr ∷ more expr CloseBrace ∷ due CloseBrace ∷ []) w refl)) (is_goes o))
-              (follow (parts_go ts c d es s (after_end z)) (more_ends ts expr CloseBrace d e (λ x. cc) z)))
-          (is_goes y)
+      (passes_two
+      (passes (follow (step (brace ∷ []) i refl) (step (due OpenBrace ∷ expr ∷ more expr CloseBrace ∷ due CloseBrace ∷ []) w refl)) (is_goes o))
+      (follow (parts_go ts c d es s (after_end z)) (more_ends ts expr CloseBrace d e (λ x. cc) z)))
+      (is_goes y)
 
   pub parts_go : (ts : List Terminal) (k n : ℕ) (es : List Expr) → IsParts ts k n es → After ts CloseBrace n →
       Leads ts (expr ∷ more expr CloseBrace ∷ []) k (more expr CloseBrace ∷ []) n
   parts_go ts _ _ _ (part_first k n e s) f = passes stays (expr_goes ts k n e s (not_after ts CloseBrace OpenBracket n f (λ x. cc) (λ x. cc)))
   parts_go ts _ _ _ (part_next k a b n es e c i s) f =
       passes (follow (parts_go ts k a es c (after_comma CloseBrace i)) (step (expr ∷ more expr CloseBrace ∷ []) i refl))
-          (expr_goes ts b n e s (not_after ts CloseBrace OpenBracket n f (λ x. cc) (λ x. cc)))
+      (expr_goes ts b n e s (not_after ts CloseBrace OpenBracket n f (λ x. cc) (λ x. cc)))
 
 mutual
   pub left_goes : (ts : List Terminal) (k n : ℕ) (e : Expr) → IsLeft ts k n e → Free ts n → Leads ts (left ∷ []) k [] n
   left_goes ts _ _ _ (left_named k n e s) f = follow (left_as_name ts k (named_here ts k n e s)) (named_goes ts k n e s f)
   left_goes ts _ _ _ (left_join k a b n es i s z) f =
       follow (step (left ∷ more left CloseBrace ∷ []) i refl)
-          (follow (lefts_go ts a b es s (after_end z)) (more_ends ts left CloseBrace b n (λ e. cc) z))
+      (follow (lefts_go ts a b es s (after_end z)) (more_ends ts left CloseBrace b n (λ e. cc) z))
 
   lefts_go : (ts : List Terminal) (k n : ℕ) (es : List Expr) → IsLefts ts k n es → After ts CloseBrace n →
       Leads ts (left ∷ more left CloseBrace ∷ []) k (more left CloseBrace ∷ []) n
   lefts_go ts _ _ _ (left_first k n e s) f = passes stays (left_goes ts k n e s (not_after ts CloseBrace OpenBracket n f (λ x. cc) (λ x. cc)))
   lefts_go ts _ _ _ (left_next k a b n es e c i s) f =
       passes (follow (lefts_go ts k a es c (after_comma CloseBrace i)) (step (left ∷ more left CloseBrace ∷ []) i refl))
-          (left_goes ts b n e s (not_after ts CloseBrace OpenBracket n f (λ x. cc) (λ x. cc)))
+      (left_goes ts b n e s (not_after ts CloseBrace OpenBracket n f (λ x. cc) (λ x. cc)))
 
 -- a list whose items are passed where a comma or the end follows
 pub commas_go : {A : Type 0} (ts : List Terminal) (x : Symbol) (end : Terminal) (X : ℕ → ℕ → A → Type 0) →

@@ -65,7 +65,7 @@ net_here ts _ _ _ (grammar.net k a n v i s) = i.here
 pair_goes : (ts : List Terminal) (k n : ℕ) (x : AssignPair) → IsPair ts k n x → After ts Semicolon n → Leads ts (pair ∷ []) k [] n
 pair_goes ts _ _ _ (grammar.pair k a b n l r s i z) f =
     passes (passes (passes pair_begins (left_goes ts k a l s (free ts a b Equals i (λ e. cc)))) (is_goes i))
-        (expr_goes ts b n r z (not_after ts Semicolon OpenBracket n f (λ e. cc) (λ e. cc)))
+    (expr_goes ts b n r z (not_after ts Semicolon OpenBracket n f (λ e. cc) (λ e. cc)))
 
 terminal_goes : (ts : List Terminal) (k n : ℕ) (e : Expr) → IsExpr ts k n e → After ts CloseParen n → Leads ts (expr ∷ []) k [] n
 terminal_goes ts k n e s f = expr_goes ts k n e s (not_after ts CloseParen OpenBracket n f (λ x. cc) (λ x. cc))
@@ -79,7 +79,7 @@ terminals_go ts _ _ _ (next_item k a b n _ y (first_item _ _ e r) i s) two f =
 terminals_go ts _ _ _ (next_item k a b n _ y (next_item _ c d _ xs z g j r) i s) two f =
     let some : 1 ≤ length xs = commas_length ts (IsExpr ts) k c xs g in
     passes (follow (terminals_go ts k a (xs ++ z ∷ []) (next_item k c d a xs z g j r) (simp length-append (omega arith)) (after_comma CloseParen i))
-        (step (expr ∷ more expr CloseParen ∷ []) i refl)) (terminal_goes ts b n y s f)
+    (step (expr ∷ more expr CloseParen ∷ []) i refl)) (terminal_goes ts b n y s f)
 
 label_goes : (ts : List Terminal) (k n m : ℕ) (l : Option ℕ) → Optional (IsName ts) k n l → Is ts n OpenParen m → Leads ts (label ∷ []) k [] n
 label_goes ts _ _ m _ (absent k) i = label_absent ts k (λ e. (let h : slice_get ts k ≡ Some OpenParen = i.here in cc))
@@ -88,7 +88,7 @@ label_goes ts _ _ m _ (present k n _ (name _ _ j)) i = step [] j refl
 prim_goes : (ts : List Terminal) (k n : ℕ) (x : Prim) → IsPrim ts k n x → After ts Semicolon n → Leads ts (prim ∷ []) k [] n
 prim_goes ts _ _ _ (grammar.prim k a b c n l es s i (terminals _ _ _ t two) z) f =
     follow (follow (passes (passes prim_begins (label_goes ts k a b l s i)) (is_goes i)) (terminals_go ts b c es t two (after_end z)))
-        (more_ends ts expr CloseParen c n (λ e. cc) z)
+    (more_ends ts expr CloseParen c n (λ e. cc) z)
 
 -- a place that may be empty
 place_goes : (ts : List Terminal) (k n : ℕ) (e : Option Expr) → Optional (IsExpr ts) k n e → After ts CloseParen n → Leads ts (place ∷ []) k [] n
@@ -129,13 +129,14 @@ links_go ts _ _ n _ (ordered k m ps c some) z =
   where
     not_end : (t : Terminal) → (starts (Some t) ≡ false) → starts (slice_get ts k) ≡ true → slice_get ts k ≡ Some t → ⊥
     not_end t other s e = (let f : true ≡ false = sym s ∙ ap starts e ∙ other in cc)
+
     go : (starts (slice_get ts k) ≡ true) ⊎ ((slice_get ts k ≡ Some Comma) ⊎ ((m ≡ k) × (ps ≡ None ∷ []))) → Leads ts (links ∷ []) k (place ∷ more place CloseParen ∷ []) k
     go (inl s) = links_ordered ts k (not_end CloseParen refl s) (not_end Dot refl s)
     go (inr (inl e)) = links_ordered ts k (λ f. cc) (λ f. cc)
     go (inr (inr w)) = absurd (some w.1)
 links_go ts _ _ n _ (by_name k m ls c) z =
     follow (links_named (commas_here ts (IsLink ts) (λ j. slice_get ts j ≡ Some Dot) (link_here ts) k m ls c))
-        (commas_close ts link CloseParen (IsLink ts) (λ e. cc) (link_goes ts) k m n ls c z)
+    (commas_close ts link CloseParen (IsLink ts) (λ e. cc) (link_goes ts) k m n ls c z)
 
 inst_goes : (ts : List Terminal) (k n : ℕ) (x : Inst) → IsInst ts k n x → After ts Semicolon n → Leads ts (inst ∷ []) k [] n
 inst_goes ts _ _ _ (grammar.inst k a b c n ls i o s z) f = passes (passes (passes inst_begins (is_goes i)) (is_goes o)) (links_go ts b c n ls s z)
@@ -144,15 +145,15 @@ item_goes : (ts : List Terminal) (k n : ℕ) (x : Item) → IsItem ts k n x → 
 item_goes ts _ _ _ (ports_item k a b c d n dir r ns i w o s z) =
     let q = range_goes ts b c r o (names_here ts c d ns s) in
     follow (passes (passes (step (wire ∷ range ∷ due Name ∷ more (due Name) Semicolon ∷ []) i refl) (wire_goes ts a b w q.1)) q.0)
-        (commas_close ts (due Name) Semicolon (IsName ts) (λ e. cc) (name_goes ts Semicolon) c d n ns s z)
+    (commas_close ts (due Name) Semicolon (IsName ts) (λ e. cc) (name_goes ts Semicolon) c d n ns s z)
 item_goes ts _ _ _ (nets_item k a b c n r ns i o s z) =
     let q = range_goes ts a b r o (commas_here ts (IsNet ts) (λ j. slice_get ts j ≡ Some Name) (net_here ts) b c ns s) in
     follow (passes (step (range ∷ net ∷ more net Semicolon ∷ []) i refl) q.0)
-        (commas_close ts net Semicolon (IsNet ts) (λ e. cc) (net_goes ts) b c n ns s z)
+    (commas_close ts net Semicolon (IsNet ts) (λ e. cc) (net_goes ts) b c n ns s z)
 item_goes ts _ _ _ (supply_item k a b c n v r ns i o s z) =
     let q = range_goes ts a b r o (names_here ts b c ns s) in
     follow (passes (step (range ∷ due Name ∷ more (due Name) Semicolon ∷ []) i refl) q.0)
-        (commas_close ts (due Name) Semicolon (IsName ts) (λ e. cc) (name_goes ts Semicolon) b c n ns s z)
+    (commas_close ts (due Name) Semicolon (IsName ts) (λ e. cc) (name_goes ts Semicolon) b c n ns s z)
 item_goes ts _ _ _ (assign_item k a b n ps i s z) =
     follow (step (pair ∷ more pair Semicolon ∷ []) i refl) (commas_close ts pair Semicolon (IsPair ts) (λ e. cc) (pair_goes ts) a b n ps s z)
 item_goes ts _ _ _ (gates_item k a b n ps i s z) =
@@ -192,7 +193,7 @@ header_goes ts _ _ n _ (no_header k) z = step [] z refl
 header_goes ts _ _ n _ (names k m ps c) z =
     let here : slice_get ts k ≡ Some Name = commas_here ts (IsPlainPort ts) (λ j. slice_get ts j ≡ Some Name) (plain_here ts) k m ps c in
     follow (header_names ts k (λ e. cc) (λ d e. cc))
-        (commas_close ts (due Name) CloseParen (IsPlainPort ts) (λ e. cc) (plain_goes ts) k m n ps c z)
+    (commas_close ts (due Name) CloseParen (IsPlainPort ts) (λ e. cc) (plain_goes ts) k m n ps c z)
 header_goes ts _ _ n _ (directions k m q ps s) z =
     let g = ports_go ts k m q ps s in
     follow (header_directions {d = g.1.0} g.1.1) (follow g.0 (more_ends ts port CloseParen m n (λ e. cc) z))
@@ -217,7 +218,7 @@ items_go ts _ _ _ (another k a n xs x s i) =
 module_goes : (ts : List Terminal) (k n : ℕ) (x : ModuleTree) → IsModule ts k n x → Leads ts (module_ ∷ []) k [] n
 module_goes ts _ _ _ (grammar.module_ k a b c d e n ps xs i j h z s y) =
     follow (follow (passes (passes (passes (passes module_begins (is_goes i)) (is_goes j)) (head_goes ts b c d ps h z)) (is_goes z)) (items_go ts d e xs s))
-        (step [] y refl)
+    (step [] y refl)
 
 source_module : (ts : List Terminal) (k : ℕ) → slice_get ts k ≡ Some Module → Leads ts (source ∷ []) k (module_ ∷ source ∷ []) k
 source_module ts k here = alike ts k (source ∷ []) (module_ ∷ source ∷ []) (λ below e. cc)

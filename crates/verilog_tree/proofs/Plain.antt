@@ -47,6 +47,7 @@ plain t u p e = go (again t) (again u)
   where
     has_value : code_of u ≡ 255 → t ≡ u
     has_value f = (let no : true ≡ false = sym (below u p) ∙ ap (λ n. nat_lt n 255) f in cc)
+
     go : (plain_of (code_of t) ≡ t) ⊎ (code_of t ≡ 255) → (plain_of (code_of u) ≡ u) ⊎ (code_of u ≡ 255) → t ≡ u
     go (inl a) (inl b) = sym a ∙ ap plain_of e ∙ b
     go (inl a) (inr b) = has_value b

@@ -19,5 +19,5 @@ terminals_closed {ts} {k} {a} {b} {m} {n} {e} {f} {none} {first} {second} {es} p
     record {
       place = rest.place;
       stands = terminals k rest.place es (rest.stands.goes_on k (subst (λ l. Commas ts (IsExpr ts) k m l) (sym both) two)) (let w : length second ≤ length es = rest.stands.longer in omega arith);
-      ends = rest.ends
+      ends = rest.ends;
     }

@@ -42,7 +42,7 @@ range_absent ts k w not_open = record {
   stands = absent k;
   goes = skips ts k range refl go;
   forward = omega arith;
-  inside = w
+  inside = w;
 }
   where
     go : (t : Terminal) → slice_get ts k ≡ Some t → after_range t ≡ Skips
@@ -58,7 +58,7 @@ range_read ts k a b d n left right e l c r z = record {
       (is_range k (k + 1) a b d n left right (record { here = e; after = refl }) l.stands c.is r.stands z.is);
   goes = passes (passes (passes (passes (range_begins e) l.goes) c.goes) r.goes) z.goes;
   forward = (let f : k + 1 ≤ a = l.forward in let g : b ≡ a + 1 = c.is.after in let h : b ≤ d = r.forward in let i : n ≡ d + 1 = z.is.after in omega arith);
-  inside = z.inside
+  inside = z.inside;
 }
 
 pub ruleset ranges = (range_left, range_colon, range_right, range_close)

@@ -46,7 +46,7 @@ select_absent ts name named not_open = record {
   stands = whole name (name + 1) (record { here = named; after = refl });
   goes = skips ts (name + 1) select refl go;
   forward = omega arith;
-  inside = here_within ts name Name named
+  inside = here_within ts name Name named;
 }
   where
     go : (t : Terminal) → slice_get ts (name + 1) ≡ Some t → after_select t ≡ Skips
@@ -61,7 +61,7 @@ select_bit ts name a left named e l c = record {
       (record { here = named; after = refl }) (record { here = e; after = refl }) l.stands (record { here = c; after = refl });
   goes = follow (passes (select_begins e) l.goes) (begins [] [] c refl);
   forward = (let f = l.forward in omega arith);
-  inside = here_within ts a CloseBracket c
+  inside = here_within ts a CloseBracket c;
 }
 
 pub select_part : (ts : List Terminal) (name a b n left right : ℕ) → slice_get ts name ≡ Some Name → slice_get ts (name + 1) ≡ Some OpenBracket →
@@ -72,7 +72,7 @@ select_part ts name a b n left right named e l c r z = record {
       (record { here = named; after = refl }) (record { here = e; after = refl }) l.stands (record { here = c; after = refl }) r.stands z.is;
   goes = passes (passes (select_colon e l c) r.goes) z.goes;
   forward = (let f : name + 1 + 1 ≤ a = l.forward in let g : a + 1 ≤ b = r.forward in let h : n ≡ b + 1 = z.is.after in omega arith);
-  inside = z.inside
+  inside = z.inside;
 }
 
 pub ruleset selects = (select_left, select_right, select_close, select_wrong)

@@ -15,7 +15,7 @@ number_passed ts k value e = record {
   stands = record { here = e; after = refl };
   goes = begins [] [] e refl;
   forward = omega arith;
-  inside = here_within ts k (Number value) e
+  inside = here_within ts k (Number value) e;
 }
 
 pub number_wrong : (ts : List Terminal) (k : ℕ) → k ≤ length ts → ((value : ℕ) → slice_get ts k ≡ Some (Number value) → ⊥) → Fails ts (number ∷ []) k (Stop.Stuck k)
@@ -37,7 +37,7 @@ due_passed ts k u e = record {
   is = record { here = e; after = refl };
   forward = omega arith;
   goes = begins [] [] e (ap (λ b. if b then Begins [] else Wrong) (is_same_self u));
-  inside = here_within ts k u e
+  inside = here_within ts k u e;
 }
 
 pub due_found : (ts : List Terminal) (k : ℕ) (u found : Terminal) → slice_get ts k ≡ Some found → found ≡ u → Passes ts u k (k + 1)
@@ -58,7 +58,7 @@ pub more_comma : (ts : List Terminal) (k : ℕ) (end : Terminal) → slice_get t
 more_comma ts k end e = record {
   is = record { here = e; after = refl };
   goes = λ x. begins (x ∷ more x end ∷ []) [] e refl;
-  inside = here_within ts k Comma e
+  inside = here_within ts k Comma e;
 }
 
 -- what a terminal that is no comma makes of the rest of a list
@@ -74,7 +74,7 @@ more_end ts k end found e not_comma b =
       is = record { here = at_end; after = refl };
       goes = λ x. begins [] [] at_end
           (after_item x end end (λ f. not_comma (at_end ∙ ap (λ t. Some t) f)) ∙ ap (λ b. if b then Begins [] else Wrong) (is_same_self end));
-      inside = here_within ts k end at_end
+      inside = here_within ts k end at_end;
     }
 
 -- or the text is wrong
@@ -85,7 +85,7 @@ more_other ts k end found w p e not_comma other x = wrong ts k (more x end) [] w
     go : (t : Terminal) → slice_get ts k ≡ Some t → after_more x end t ≡ Wrong
     go t f =
         after_item x end t (λ g. not_comma (f ∙ ap (λ m. Some m) g))
-            ∙ ap (λ b. if b then Begins [] else Wrong) (is_other t end p (λ g. other (let same : found ≡ t = cc in same ∙ g)))
+        ∙ ap (λ b. if b then Begins [] else Wrong) (is_other t end p (λ g. other (let same : found ≡ t = cc in same ∙ g)))
 
 pub more_absent : (ts : List Terminal) (k : ℕ) (end : Terminal) → k ≤ length ts → slice_get ts k ≡ None → (x : Symbol) → Fails ts (more x end ∷ []) k (Stop.Stuck k)
 more_absent ts k end w none x = wrong ts k (more x end) [] w refl (λ t e. (let no : ⊥ = cc in absurd no))

@@ -65,6 +65,7 @@ reach_back ts (t ∷ front) rest k n st d e f g = go (next st t) refl f (λ late
   where
     shift : k + length (t ∷ front) ≡ k + 1 + length front
     shift = omega arith
+
     go : (o : Option (List Symbol)) → next st t ≡ o → elim o [ None ↦ None | Some later ↦ reach later front ] ≡ Some d →
         ((later : List Symbol) → reach later front ≡ Some d → Due ts later (k + 1) n) → Due ts st k n
     go None h f rec = absurd (let no : ⊥ = cc in no)
@@ -150,11 +151,11 @@ complete_due ts [] k w e =
     let none_left : length ts - k ≡ 0 = sym (length-drop k ts) ∙ ap (λ (l : List Terminal). length l) e in omega arith
 complete_due ts (s ∷ parts) k w e =
     let rest : drop (k + length (word s)) ts ≡ complete parts =
-        sym (drop-drop (length (word s)) k ts) ∙ ap (drop (length (word s))) e ∙ drop-append_seam (word s) (complete parts) in
+    sym (drop-drop (length (word s)) k ts) ∙ ap (drop (length (word s))) e ∙ drop-append_seam (word s) (complete parts) in
     let long : length ts - k ≡ length (word s) + length (complete parts) =
-        sym (length-drop k ts) ∙ ap (λ (l : List Terminal). length l) e ∙ length-append (word s) (complete parts) in
+    sym (length-drop k ts) ∙ ap (λ (l : List Terminal). length l) e ∙ length-append (word s) (complete parts) in
     due_append ts (s ∷ []) parts k (k + length (word s)) (length ts) (stands_word ts s (complete parts) k e)
-        (complete_due ts parts (k + length (word s)) (omega arith) rest)
+    (complete_due ts parts (k + length (word s)) (omega arith) rest)
 
 many_modules : (ts : List Terminal) (k n : ℕ) (xs : List ModuleTree) → Many (IsModule ts) 0 k xs →
     Runs (λ j m. (x : ModuleTree) × IsModule ts j m x) (λ j m. j ≡ m) k n → (ys : List ModuleTree) × Many (IsModule ts) 0 n ys
@@ -168,7 +169,7 @@ begins_text front d e =
     let at_end : drop (length front) ts ≡ complete d = drop-append_seam front (complete d) in
     let inside : length front ≤ length ts = simp length-append (omega arith) in
     let later : Due ts d (0 + length front) (length ts) =
-        subst (λ (j : ℕ). Due ts d j (length ts)) (sym (zero-add (length front))) (complete_due ts d (length front) inside at_end) in
+    subst (λ (j : ℕ). Due ts d j (length ts)) (sym (zero-add (length front))) (complete_due ts d (length front) inside at_end) in
     let ms = many_modules ts 0 (length ts) [] (none 0) (reach_back ts front (complete d) 0 (length ts) (source ∷ []) d refl e later) in
     (complete d, record { modules = ms.0 }, ms.1)
 
@@ -203,7 +204,7 @@ fault_split (t ∷ ts) rest st e = go (next st t) refl e (λ later h. fault_spli
   where
     go : (o : Option (List Symbol)) → next st t ≡ o → elim o [ None ↦ Some (t ∷ ts) | Some later ↦ fault later ts ] ≡ Some rest →
         ((later : List Symbol) → fault later ts ≡ Some rest →
-            (front : List Terminal) × ((d : List Symbol) × ((ts ≡ front ++ rest) × (reach later front ≡ Some d) × Halts d rest))) →
+        (front : List Terminal) × ((d : List Symbol) × ((ts ≡ front ++ rest) × (reach later front ≡ Some d) × Halts d rest))) →
         (front : List Terminal) × ((d : List Symbol) × ((t ∷ ts ≡ front ++ rest) × (reach st front ≡ Some d) × Halts d rest))
     go None f g rec = (let same : t ∷ ts ≡ rest = cc in ([], (st, (same, refl, subst (λ l. Halts st l) same f))))
     go (Some later) f g rec =
@@ -220,7 +221,7 @@ stopped ts p w e =
     let size : length (drop p ts) ≡ length ts - p = length-drop p ts in
     let is_p : length q.0 ≡ p = omega arith in
     let front : q.0 ≡ take p ts =
-        sym (take-append_seam q.0 (drop p ts)) ∙ ap (λ (n : ℕ). take n (q.0 ++ drop p ts)) is_p ∙ ap (take p) (sym whole) in
+    sym (take-append_seam q.0 (drop p ts)) ∙ ap (λ (n : ℕ). take n (q.0 ++ drop p ts)) is_p ∙ ap (take p) (sym whole) in
     (q.1.0, (subst (λ l. reach (source ∷ []) l ≡ Some q.1.0) front q.1.1.1, q.1.1.2))
 
 -- the first fault of a text
@@ -236,7 +237,7 @@ first_fault ts p d w e refused ended = record {
       let stop : fault (source ∷ []) (take p ts ++ []) ≡ fault d [] = reach_fault (take p ts) [] (source ∷ []) d e in
       let same : take p ts ++ [] ≡ ts = append-nil (take p ts) ∙ all in
       let some : fault d [] ≡ Some [] = ap (λ (b : Bool). if b then None else Some []) (ended f) in
-      let both : fault (source ∷ []) ts ≡ Some [] = sym (ap (fault (source ∷ [])) same) ∙ stop ∙ some in cc)
+      let both : fault (source ∷ []) ts ≡ Some [] = sym (ap (fault (source ∷ [])) same) ∙ stop ∙ some in cc);
 }
   where
     go : (o : Option Terminal) → slice_get ts p ≡ o → p < length ts → text.Begins (take (p + 1) ts) → ⊥
@@ -244,7 +245,7 @@ first_fault ts p d w e refused ended = record {
         let zero_left : length (drop p ts) ≡ 0 = ap (λ (l : List Terminal). length l) behind in absurd (omega arith))
     go (Some t) f h b =
         (let one_more : take (p + 1) ts ≡ take p ts ++ t ∷ [] =
-            take_more ts p t h ∙ ap (λ x. take p ts ++ x ∷ []) (get_or_from_slice_get ts p t t f) in
+        take_more ts p t h ∙ ap (λ x. take p ts ++ x ∷ []) (get_or_from_slice_get ts p t t f) in
         let us : take (p + 1) ts ++ b.0 ≡ take p ts ++ (t ∷ b.0) = ap (λ l. l ++ b.0) one_more ∙ append_assoc (take p ts) (t ∷ []) b.0 in
         let n : fault (source ∷ []) (take (p + 1) ts ++ b.0) ≡ None = source_passed (take (p + 1) ts ++ b.0) b.1 b.2 in
         let stop : fault (source ∷ []) (take p ts ++ (t ∷ b.0)) ≡ fault d (t ∷ b.0) = reach_fault (take p ts) (t ∷ b.0) (source ∷ []) d e in

@@ -40,37 +40,38 @@ pub data Optional {A : Type 0} (X : ℕ → ℕ → A → Type 0) : ℕ → ℕ 
 pub data Commas {A : Type 0} (ts : List Terminal) (X : ℕ → ℕ → A → Type 0) : ℕ → ℕ → List A → Type 0 where
   first_item : (k n : ℕ) (a : A) → X k n a → Commas ts X k n (a ∷ [])
   next_item : (k a b n : ℕ) (xs : List A) (x : A) →
-    Commas ts X k a xs → Is ts a Comma b → X b n x → Commas ts X k n (xs ++ x ∷ [])
+      Commas ts X k a xs → Is ts a Comma b → X b n x → Commas ts X k n (xs ++ x ∷ [])
 
 -- range = "[" NUM ":" NUM "]"
 pub data IsRange (ts : List Terminal) : ℕ → ℕ → IndexRange → Type 0 where
   range : (k a b c d n left right : ℕ) →
-    Is ts k OpenBracket a → Is ts a (Number left) b → Is ts b Colon c →
-    Is ts c (Number right) d → Is ts d CloseBracket n →
-    IsRange ts k n (record { left = left; right = right })
+      Is ts k OpenBracket a → Is ts a (Number left) b → Is ts b Colon c →
+      Is ts c (Number right) d → Is ts d CloseBracket n →
+      IsRange ts k n (record { left = left; right = right })
 
 -- NAME [ select ], with select = "[" NUM [ ":" NUM ] "]"
 pub data IsNamed (ts : List Terminal) : ℕ → ℕ → Expr → Type 0 where
   whole : (k n : ℕ) → Is ts k Name n → IsNamed ts k n (expr.Whole k)
   bit : (k a b c n index : ℕ) →
-    Is ts k Name a → Is ts a OpenBracket b → Is ts b (Number index) c →
-    Is ts c CloseBracket n → IsNamed ts k n (expr.Bit k index)
+      Is ts k Name a → Is ts a OpenBracket b → Is ts b (Number index) c →
+      Is ts c CloseBracket n → IsNamed ts k n (expr.Bit k index)
   part : (k a b c d e n left right : ℕ) →
-    Is ts k Name a → Is ts a OpenBracket b → Is ts b (Number left) c →
-    Is ts c Colon d → Is ts d (Number right) e → Is ts e CloseBracket n →
-    IsNamed ts k n (expr.Part k left right)
+      Is ts k Name a → Is ts a OpenBracket b → Is ts b (Number left) c →
+      Is ts c Colon d → Is ts d (Number right) e → Is ts e CloseBracket n →
+      IsNamed ts k n (expr.Part k left right)
 
 -- left = NAME [ select ] | "{" left { "," left } "}"
 mutual
   pub data IsLeft (ts : List Terminal) : ℕ → ℕ → Expr → Type 0 where
     left_named : (k n : ℕ) (e : Expr) → IsNamed ts k n e → IsLeft ts k n e
     left_join : (k a b n : ℕ) (es : List Expr) →
-      Is ts k OpenBrace a → IsLefts ts a b es → Is ts b CloseBrace n →
-      IsLeft ts k n (expr.Join es)
+        Is ts k OpenBrace a → IsLefts ts a b es → Is ts b CloseBrace n →
+        IsLeft ts k n (expr.Join es)
+
   pub data IsLefts (ts : List Terminal) : ℕ → ℕ → List Expr → Type 0 where
     left_first : (k n : ℕ) (e : Expr) → IsLeft ts k n e → IsLefts ts k n (e ∷ [])
     left_next : (k a b n : ℕ) (es : List Expr) (e : Expr) →
-      IsLefts ts k a es → Is ts a Comma b → IsLeft ts b n e → IsLefts ts k n (es ++ e ∷ [])
+        IsLefts ts k a es → Is ts a Comma b → IsLeft ts b n e → IsLefts ts k n (es ++ e ∷ [])
 
 -- expr = NAME [ select ] | CONST | "{" expr { "," expr } "}"
 --      | "{" NUM "{" expr { "," expr } "}" "}"
@@ -79,16 +80,17 @@ mutual
     expr_named : (k n : ℕ) (e : Expr) → IsNamed ts k n e → IsExpr ts k n e
     expr_constant : (k n : ℕ) → Is ts k Constant n → IsExpr ts k n (expr.Constant k)
     expr_join : (k a b n : ℕ) (es : List Expr) →
-      Is ts k OpenBrace a → IsParts ts a b es → Is ts b CloseBrace n →
-      IsExpr ts k n (expr.Join es)
+        Is ts k OpenBrace a → IsParts ts a b es → Is ts b CloseBrace n →
+        IsExpr ts k n (expr.Join es)
     expr_repeat : (k a b c d e n count : ℕ) (es : List Expr) →
-      Is ts k OpenBrace a → Is ts a (Number count) b → Is ts b OpenBrace c →
-      IsParts ts c d es → Is ts d CloseBrace e → Is ts e CloseBrace n →
-      IsExpr ts k n (expr.Repeat count es)
+        Is ts k OpenBrace a → Is ts a (Number count) b → Is ts b OpenBrace c →
+        IsParts ts c d es → Is ts d CloseBrace e → Is ts e CloseBrace n →
+        IsExpr ts k n (expr.Repeat count es)
+
   pub data IsParts (ts : List Terminal) : ℕ → ℕ → List Expr → Type 0 where
     part_first : (k n : ℕ) (e : Expr) → IsExpr ts k n e → IsParts ts k n (e ∷ [])
     part_next : (k a b n : ℕ) (es : List Expr) (e : Expr) →
-      IsParts ts k a es → Is ts a Comma b → IsExpr ts b n e → IsParts ts k n (es ++ e ∷ [])
+        IsParts ts k a es → Is ts a Comma b → IsExpr ts b n e → IsParts ts k n (es ++ e ∷ [])
 
 -- NAME, whose place the tree holds
 pub data IsName (ts : List Terminal) : ℕ → ℕ → ℕ → Type 0 where
@@ -101,12 +103,12 @@ pub data IsValue (ts : List Terminal) : ℕ → ℕ → Expr → Type 0 where
 -- net = NAME [ "=" expr ]
 pub data IsNet (ts : List Terminal) : ℕ → ℕ → NetPart → Type 0 where
   net : (k a n : ℕ) (v : Option Expr) →
-    Is ts k Name a → Optional (IsValue ts) a n v → IsNet ts k n (record { name = k; value = v })
+      Is ts k Name a → Optional (IsValue ts) a n v → IsNet ts k n (record { name = k; value = v })
 
 -- left "=" expr
 pub data IsPair (ts : List Terminal) : ℕ → ℕ → AssignPair → Type 0 where
   pair : (k a b n : ℕ) (l r : Expr) →
-    IsLeft ts k a l → Is ts a Equals b → IsExpr ts b n r → IsPair ts k n (record { left = l; right = r })
+      IsLeft ts k a l → Is ts a Equals b → IsExpr ts b n r → IsPair ts k n (record { left = l; right = r })
 
 -- expr "," expr { "," expr }
 pub data IsTerminals (ts : List Terminal) : ℕ → ℕ → List Expr → Type 0 where
@@ -115,30 +117,30 @@ pub data IsTerminals (ts : List Terminal) : ℕ → ℕ → List Expr → Type 0
 -- prim = [ NAME ] "(" expr "," expr { "," expr } ")"
 pub data IsPrim (ts : List Terminal) : ℕ → ℕ → Prim → Type 0 where
   prim : (k a b c n : ℕ) (label : Option ℕ) (es : List Expr) →
-    Optional (IsName ts) k a label → Is ts a OpenParen b → IsTerminals ts b c es → Is ts c CloseParen n →
-    IsPrim ts k n (record { name = label; terminals = es })
+      Optional (IsName ts) k a label → Is ts a OpenParen b → IsTerminals ts b c es → Is ts c CloseParen n →
+      IsPrim ts k n (record { name = label; terminals = es })
 
 -- "." NAME "(" [ expr ] ")"
 pub data IsLink (ts : List Terminal) : ℕ → ℕ → NamedLink → Type 0 where
   link : (k a b c d n : ℕ) (e : Option Expr) →
-    Is ts k Dot a → Is ts a Name b → Is ts b OpenParen c → Optional (IsExpr ts) c d e →
-    Is ts d CloseParen n → IsLink ts k n (record { port = a; expr = e })
+      Is ts k Dot a → Is ts a Name b → Is ts b OpenParen c → Optional (IsExpr ts) c d e →
+      Is ts d CloseParen n → IsLink ts k n (record { port = a; expr = e })
 
 -- [ order | named ], with order = expr | [ expr ] "," [ expr ] { "," [ expr ] }: places that may be
 -- empty, but not one empty place alone
 pub data IsLinks (ts : List Terminal) : ℕ → ℕ → Links → Type 0 where
   no_links : (k : ℕ) → IsLinks ts k k links.Empty
   ordered : (k n : ℕ) (places : List (Option Expr)) →
-    Commas ts (Optional (IsExpr ts)) k n places → (places ≡ None ∷ [] → ⊥) →
-    IsLinks ts k n (links.Ordered places)
+      Commas ts (Optional (IsExpr ts)) k n places → (places ≡ None ∷ [] → ⊥) →
+      IsLinks ts k n (links.Ordered places)
   by_name : (k n : ℕ) (named : List NamedLink) →
-    Commas ts (IsLink ts) k n named → IsLinks ts k n (links.Named named)
+      Commas ts (IsLink ts) k n named → IsLinks ts k n (links.Named named)
 
 -- inst = NAME "(" [ order | named ] ")"
 pub data IsInst (ts : List Terminal) : ℕ → ℕ → Inst → Type 0 where
   inst : (k a b c n : ℕ) (ls : Links) →
-    Is ts k Name a → Is ts a OpenParen b → IsLinks ts b c ls → Is ts c CloseParen n →
-    IsInst ts k n (record { name = k; links = ls })
+      Is ts k Name a → Is ts a OpenParen b → IsLinks ts b c ls → Is ts c CloseParen n →
+      IsInst ts k n (record { name = k; links = ls })
 
 -- [ "wire" ]
 pub data IsWire (ts : List Terminal) : ℕ → ℕ → Type 0 where
@@ -153,20 +155,20 @@ pub data IsWire (ts : List Terminal) : ℕ → ℕ → Type 0 where
 --      | NAME inst { "," inst } ";"
 pub data IsItem (ts : List Terminal) : ℕ → ℕ → Item → Type 0 where
   ports_item : (k a b c d n : ℕ) (dir : Dir) (r : Option IndexRange) (names : List ℕ) →
-    Is ts k (Direction dir) a → IsWire ts a b → Optional (IsRange ts) b c r → Commas ts (IsName ts) c d names →
-    Is ts d Semicolon n → IsItem ts k n (item.Ports k dir r names)
+      Is ts k (Direction dir) a → IsWire ts a b → Optional (IsRange ts) b c r → Commas ts (IsName ts) c d names →
+      Is ts d Semicolon n → IsItem ts k n (item.Ports k dir r names)
   nets_item : (k a b c n : ℕ) (r : Option IndexRange) (nets : List NetPart) →
-    Is ts k Wire a → Optional (IsRange ts) a b r → Commas ts (IsNet ts) b c nets →
-    Is ts c Semicolon n → IsItem ts k n (item.Nets k r nets)
+      Is ts k Wire a → Optional (IsRange ts) a b r → Commas ts (IsNet ts) b c nets →
+      Is ts c Semicolon n → IsItem ts k n (item.Nets k r nets)
   supply_item : (k a b c n : ℕ) (one : Bool) (r : Option IndexRange) (names : List ℕ) →
-    Is ts k (Supply one) a → Optional (IsRange ts) a b r → Commas ts (IsName ts) b c names →
-    Is ts c Semicolon n → IsItem ts k n (item.Supply k one r names)
+      Is ts k (Supply one) a → Optional (IsRange ts) a b r → Commas ts (IsName ts) b c names →
+      Is ts c Semicolon n → IsItem ts k n (item.Supply k one r names)
   assign_item : (k a b n : ℕ) (pairs : List AssignPair) →
-    Is ts k Assign a → Commas ts (IsPair ts) a b pairs → Is ts b Semicolon n → IsItem ts k n (item.Assign k pairs)
+      Is ts k Assign a → Commas ts (IsPair ts) a b pairs → Is ts b Semicolon n → IsItem ts k n (item.Assign k pairs)
   gates_item : (k a b n : ℕ) (prims : List Prim) →
-    Is ts k Gate a → Commas ts (IsPrim ts) a b prims → Is ts b Semicolon n → IsItem ts k n (item.Gates k prims)
+      Is ts k Gate a → Commas ts (IsPrim ts) a b prims → Is ts b Semicolon n → IsItem ts k n (item.Gates k prims)
   instances_item : (k a b n : ℕ) (insts : List Inst) →
-    Is ts k Name a → Commas ts (IsInst ts) a b insts → Is ts b Semicolon n → IsItem ts k n (item.Instances k insts)
+      Is ts k Name a → Commas ts (IsInst ts) a b insts → Is ts b Semicolon n → IsItem ts k n (item.Instances k insts)
 
 -- NAME in a header, without a direction
 pub data IsPlainPort (ts : List Terminal) : ℕ → ℕ → PortName → Type 0 where
@@ -175,17 +177,17 @@ pub data IsPlainPort (ts : List Terminal) : ℕ → ℕ → PortName → Type 0 
 -- one = dir [ "wire" ] [ range ] NAME
 pub data IsOne (ts : List Terminal) : ℕ → ℕ → PortName → Type 0 where
   one : (k a b c n : ℕ) (d : Dir) (r : Option IndexRange) →
-    Is ts k (Direction d) a → IsWire ts a b → Optional (IsRange ts) b c r → Is ts c Name n →
-    IsOne ts k n (record { name = c; dir = Some d; range = r })
+      Is ts k (Direction d) a → IsWire ts a b → Optional (IsRange ts) b c r → Is ts c Name n →
+      IsOne ts k n (record { name = c; dir = Some d; range = r })
 
 -- one { "," ( one | NAME ) }, with the last port of it; a NAME has the direction and range before it
 pub data IsPorts (ts : List Terminal) : ℕ → ℕ → PortName → List PortName → Type 0 where
   first_port : (k n : ℕ) (p : PortName) → IsOne ts k n p → IsPorts ts k n p (p ∷ [])
   next_one : (k a b n : ℕ) (p q : PortName) (ps : List PortName) →
-    IsPorts ts k a q ps → Is ts a Comma b → IsOne ts b n p → IsPorts ts k n p (ps ++ p ∷ [])
+      IsPorts ts k a q ps → Is ts a Comma b → IsOne ts b n p → IsPorts ts k n p (ps ++ p ∷ [])
   next_name : (k a b n : ℕ) (q : PortName) (ps : List PortName) →
-    IsPorts ts k a q ps → Is ts a Comma b → Is ts b Name n →
-    IsPorts ts k n (record { name = b; dir = q.dir; range = q.range })
+      IsPorts ts k a q ps → Is ts a Comma b → Is ts b Name n →
+      IsPorts ts k n (record { name = b; dir = q.dir; range = q.range })
       (ps ++ record { name = b; dir = q.dir; range = q.range } ∷ [])
 
 -- [ header ], with header = NAME { "," NAME } | one { "," ( one | NAME ) }
@@ -198,7 +200,7 @@ pub data IsHeader (ts : List Terminal) : ℕ → ℕ → List PortName → Type 
 pub data IsHead (ts : List Terminal) : ℕ → ℕ → List PortName → Type 0 where
   no_head : (k : ℕ) → IsHead ts k k []
   head : (k a b n : ℕ) (ps : List PortName) →
-    Is ts k OpenParen a → IsHeader ts a b ps → Is ts b CloseParen n → IsHead ts k n ps
+      Is ts k OpenParen a → IsHeader ts a b ps → Is ts b CloseParen n → IsHead ts k n ps
 
 -- { X }
 pub data Many {A : Type 0} (X : ℕ → ℕ → A → Type 0) : ℕ → ℕ → List A → Type 0 where
@@ -208,9 +210,9 @@ pub data Many {A : Type 0} (X : ℕ → ℕ → A → Type 0) : ℕ → ℕ → 
 -- module = "module" NAME [ "(" [ header ] ")" ] ";" { item } "endmodule"
 pub data IsModule (ts : List Terminal) : ℕ → ℕ → ModuleTree → Type 0 where
   module_ : (k a b c d e n : ℕ) (ps : List PortName) (is : List Item) →
-    Is ts k Module a → Is ts a Name b → IsHead ts b c ps → Is ts c Semicolon d →
-    Many (IsItem ts) d e is → Is ts e EndModule n →
-    IsModule ts k n (record { name = a; ports = ps; items = is })
+      Is ts k Module a → Is ts a Name b → IsHead ts b c ps → Is ts c Semicolon d →
+      Many (IsItem ts) d e is → Is ts e EndModule n →
+      IsModule ts k n (record { name = a; ports = ps; items = is })
 
 -- source = { module }: these terminals are a source text, and this is its tree
 abbrev pub IsSource : List Terminal → Source → Type 0

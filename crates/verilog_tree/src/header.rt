@@ -36,7 +36,11 @@ impl Part for PortName {
 }
 
 /// Reads the header of a module in its parentheses, if one stands there.
-pub(crate) fn read_head(alloc: Global, reader: &Reader, from: u32) -> Result<Read<List<PortName>>, Stop>
+pub(crate) fn read_head(
+    alloc: Global,
+    reader: &Reader,
+    from: u32,
+) -> Result<Read<List<PortName>>, Stop>
     requires { from ≤ length reader.now }
     ensures { Answers reader.now (ports ∷ []) (IsHead reader.now) from result }
 {

@@ -13,7 +13,11 @@ use emu_io::List;
 use std::alloc::Global;
 
 /// Reads the items of a module, and the word after them.
-pub(crate) fn read_items(alloc: Global, reader: &Reader, from: u32) -> Result<Read<List<Item>>, Stop>
+pub(crate) fn read_items(
+    alloc: Global,
+    reader: &Reader,
+    from: u32,
+) -> Result<Read<List<Item>>, Stop>
     requires { from ≤ length reader.now }
     ensures { Answers reader.now (items ∷ []) (Closed reader.now (Many (IsItem reader.now)) Terminal.EndModule) from result }
 {

@@ -7,8 +7,8 @@ mod header;
 mod instance;
 mod item;
 mod module;
-mod part;
 mod parser;
+mod part;
 mod primitive;
 mod reader;
 mod source;
@@ -17,5 +17,8 @@ mod terminal;
 mod tests;
 
 pub use parser::{ParseFault, parse};
-pub use source::{AssignPair, Dir, Expr, IndexRange, Inst, Item, Links, Module, NamedLink, NetPart, PortName, Prim, Source};
+pub use source::{
+    AssignPair, Dir, Expr, IndexRange, Inst, Item, Links, Module, NamedLink, NetPart, PortName,
+    Prim, Source,
+};
 pub use terminal::Terminal;

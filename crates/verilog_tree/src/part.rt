@@ -11,7 +11,6 @@ use emu_io::List;
 use std::alloc::Global;
 
 /// A part of the text that stands in lists.
-#[allow(dead_code)]
 pub(crate) trait Part: Sized + Drop {
     ghost use Rattle.std.specs.Prelude.{List, ℕ};
     ghost use Rattle.verilog_tree.specs.Predict.{Symbol};
@@ -30,7 +29,12 @@ pub(crate) trait Part: Sized + Drop {
 }
 
 /// Reads a list and the terminal that ends it.
-pub(crate) fn read_list<P: Part>(alloc: Global, reader: &Reader, from: u32, end: Terminal) -> Result<Read<List<P>>, Stop>
+pub(crate) fn read_list<P: Part>(
+    alloc: Global,
+    reader: &Reader,
+    from: u32,
+    end: Terminal,
+) -> Result<Read<List<P>>, Stop>
     requires within { from ≤ length reader.now }
     requires plain { IsTrue (is_plain end) }
     ensures { Answers reader.now (P.symbol ∷ more P.symbol end ∷ []) (Closed reader.now (Commas reader.now (P.stands reader.now)) end) from result }
@@ -42,7 +46,13 @@ pub(crate) fn read_list<P: Part>(alloc: Global, reader: &Reader, from: u32, end:
 }
 
 /// Reads what follows some items of a list, and the terminal that ends it.
-pub(crate) fn read_rest<P: Part>(alloc: Global, reader: &Reader, first: List<P>, from: u32, end: Terminal) -> Result<Read<List<P>>, Stop>
+pub(crate) fn read_rest<P: Part>(
+    alloc: Global,
+    reader: &Reader,
+    first: List<P>,
+    from: u32,
+    end: Terminal,
+) -> Result<Read<List<P>>, Stop>
     requires within { from ≤ length reader.now }
     requires plain { IsTrue (is_plain end) }
     ensures { Answers reader.now (more P.symbol end ∷ []) (Closed reader.now (Extends reader.now (P.stands reader.now) first) end) from result }

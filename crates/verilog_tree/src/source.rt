@@ -65,11 +65,20 @@ pub enum Item {
         names: List<u32>,
     },
     /// Assignments.
-    Assign { at: u32, pairs: List<AssignPair> },
+    Assign {
+        at: u32,
+        pairs: List<AssignPair>,
+    },
     /// Primitives; `at` is the word of their gate.
-    Gates { at: u32, prims: List<Prim> },
+    Gates {
+        at: u32,
+        prims: List<Prim>,
+    },
     /// Instances; `at` is the name of their module.
-    Instances { at: u32, insts: List<Inst> },
+    Instances {
+        at: u32,
+        insts: List<Inst>,
+    },
 }
 
 /// A wire in an item, with the expression that it is assigned.

@@ -103,20 +103,35 @@ fn mark_with(byte: u8) -> Terminal
 
 /// Places in the list of reserved words, from 0.
 const AND: u32 = 1;
+
 const ASSIGN: u32 = 2;
+
 const BUF: u32 = 5;
+
 const ENDMODULE: u32 = 26;
+
 const INPUT: u32 = 47;
+
 const MODULE: u32 = 57;
+
 const NAND: u32 = 58;
+
 const NOR: u32 = 61;
+
 const NOT: u32 = 63;
+
 const OR: u32 = 66;
+
 const OUTPUT: u32 = 67;
+
 const SUPPLY0: u32 = 97;
+
 const SUPPLY1: u32 = 98;
+
 const WIRE: u32 = 120;
+
 const XNOR: u32 = 122;
+
 const XOR: u32 = 123;
 
 /// The reserved word at this place of their list.

@@ -17,5 +17,5 @@ returns c = record {
   stands = grammar.present _ _ _ (grammar.value _ _ _ _ (record { here = search rules; after = refl }) c.in_ok-value.ensures.stands);
   goes = passes (value_begins (search rules)) c.in_ok-value.ensures.goes;
   forward = omega (arith, c.in_ok-value.ensures.forward);
-  inside = c.in_ok-value.ensures.inside
+  inside = c.in_ok-value.ensures.inside;
 }

@@ -14,5 +14,6 @@ returns-in_ok-next-in-Some-Colon c = select_part _ _ _ _ _ _ _ c.requires.named 
 
 pub returns-in_default-at : goal.returns-in_default-at
 returns-in_default-at c = elim c.in_default-at.branch [
-    in_default-at-via-in-Some+in_default w ↦ select_wrong _ _ _ _ (search rules) c.in_ok-left.ensures (search rules) (search rules)
-  | in_default-at-via-in_default w ↦ select_wrong _ _ _ _ (search rules) c.in_ok-left.ensures (search rules) (search rules) ]
+  | in_default-at-via-in-Some+in_default w ↦ select_wrong _ _ _ _ (search rules) c.in_ok-left.ensures (search rules) (search rules)
+  | in_default-at-via-in_default w ↦ select_wrong _ _ _ _ (search rules) c.in_ok-left.ensures (search rules) (search rules)
+]

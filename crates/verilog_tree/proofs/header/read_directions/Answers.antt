@@ -21,13 +21,13 @@ pub returns-in_err-continues : goal.returns-in_err-continues
 returns-in_err-continues c =
     let f = c.from_residual-in_err-continues.ensures in
     answered (Closed c.args.reader.now (IsHeader c.args.reader.now) CloseParen) c.from_residual-in_err-continues.result _ f.0 f.1
-        (more_fails c.ports.invariant _ c.in_err-continues.ensures.ended)
+    (more_fails c.ports.invariant _ c.in_err-continues.ensures.ended)
 
 pub returns-in_err-port : goal.returns-in_err-port
 returns-in_err-port c =
     let f = c.from_residual-in_err-port.ensures in
     answered (Closed c.args.reader.now (IsHeader c.args.reader.now) CloseParen) c.from_residual-in_err-port.result _ f.0 f.1
-        (next_fails c.ports.invariant _ (separates _ _ _ _ c.if-branch.true c.in_ok-continues.ensures.ended) c.in_err-port.ensures)
+    (next_fails c.ports.invariant _ (separates _ _ _ _ c.if-branch.true c.in_ok-continues.ensures.ended) c.in_err-port.ensures)
 
 pub ports-preserved : goal.ports-preserved
 ports-preserved c =

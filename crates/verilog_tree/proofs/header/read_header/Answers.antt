@@ -11,5 +11,6 @@ returns-in-Some-Direction c = header_of_directions _ _ c.in-Some-Direction.field
 
 pub returns-in_default : goal.returns-in_default
 returns-in_default c = elim c.in_default.branch [
-    in_default-via-in-Some+in_default w ↦ header_of_names _ _ c.read_list.result (search rules) (search rules) c.read_list.ensures
-  | in_default-via-in_default w ↦ header_of_names _ _ c.read_list.result (search rules) (search rules) c.read_list.ensures ]
+  | in_default-via-in-Some+in_default w ↦ header_of_names _ _ c.read_list.result (search rules) (search rules) c.read_list.ensures
+  | in_default-via-in_default w ↦ header_of_names _ _ c.read_list.result (search rules) (search rules) c.read_list.ensures
+]

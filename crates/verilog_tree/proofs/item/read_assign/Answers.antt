@@ -13,5 +13,5 @@ returns c = record {
   stands = grammar.assign_item _ _ _ _ _ (record { here = c.requires.begun; after = refl }) c.in_ok-pairs.ensures.stands.stands c.in_ok-pairs.ensures.stands.ends;
   goes = c.in_ok-pairs.ensures.goes;
   forward = c.in_ok-pairs.ensures.forward;
-  inside = c.in_ok-pairs.ensures.inside
+  inside = c.in_ok-pairs.ensures.inside;
 }

@@ -13,5 +13,5 @@ returns c = record {
   stands = grammar.gates_item _ _ _ _ _ (record { here = c.requires.begun; after = refl }) c.in_ok-prims.ensures.stands.stands c.in_ok-prims.ensures.stands.ends;
   goes = c.in_ok-prims.ensures.goes;
   forward = c.in_ok-prims.ensures.forward;
-  inside = c.in_ok-prims.ensures.inside
+  inside = c.in_ok-prims.ensures.inside;
 }

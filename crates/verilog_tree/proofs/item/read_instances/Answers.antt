@@ -13,5 +13,5 @@ returns c = record {
   stands = grammar.instances_item _ _ _ _ _ (record { here = c.requires.begun; after = refl }) c.in_ok-insts.ensures.stands.stands c.in_ok-insts.ensures.stands.ends;
   goes = c.in_ok-insts.ensures.goes;
   forward = c.in_ok-insts.ensures.forward;
-  inside = c.in_ok-insts.ensures.inside
+  inside = c.in_ok-insts.ensures.inside;
 }

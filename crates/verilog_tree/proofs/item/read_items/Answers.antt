@@ -13,7 +13,7 @@ items-init c = items_start _ _ _ c.requires c.new-items.ensures
 pub returns-in_err-item : goal.returns-in_err-item
 returns-in_err-item c =
     halted (Closed c.args.reader.now (Many (IsItem c.args.reader.now)) EndModule) c.from_residual.result c.from_residual.ensures
-        (follow c.items.invariant.goes (items_item _ _ (search rules))) c.in_err-item.ensures.stands
+    (follow c.items.invariant.goes (items_item _ _ (search rules))) c.in_err-item.ensures.stands
 
 pub items-preserved : goal.items-preserved
 items-preserved c = items_next c.in_ok-push.ensures.ok (search rules) c.items.invariant c.in_ok-item.ensures.stands

@@ -11,12 +11,12 @@ returns-in_err-range c =
 pub returns-in_err-nets : goal.returns-in_err-nets
 returns-in_err-nets c =
     halted_all (λ _ n i. IsItem c.args.reader.now c.args.at n i) c.from_residual-in_err-nets.result c.from_residual-in_err-nets.ensures
-        (passes stays c.in_ok-range.ensures.goes) c.in_err-nets.ensures
+    (passes stays c.in_ok-range.ensures.goes) c.in_err-nets.ensures
 
 pub returns : goal.returns
 returns c = record {
   stands = grammar.nets_item _ _ _ _ _ _ _ (record { here = c.requires.begun; after = refl }) c.in_ok-range.ensures.stands c.in_ok-nets.ensures.stands.stands c.in_ok-nets.ensures.stands.ends;
   goes = follow (passes stays c.in_ok-range.ensures.goes) c.in_ok-nets.ensures.goes;
   forward = omega (arith, c.in_ok-range.ensures.forward, c.in_ok-nets.ensures.forward);
-  inside = c.in_ok-nets.ensures.inside
+  inside = c.in_ok-nets.ensures.inside;
 }

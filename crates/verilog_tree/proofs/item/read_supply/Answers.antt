@@ -11,12 +11,12 @@ returns-in_err-range c =
 pub returns-in_err-names : goal.returns-in_err-names
 returns-in_err-names c =
     halted_all (λ _ n i. IsItem c.args.reader.now c.args.at n i) c.from_residual-in_err-names.result c.from_residual-in_err-names.ensures
-        (passes stays c.in_ok-range.ensures.goes) c.in_err-names.ensures
+    (passes stays c.in_ok-range.ensures.goes) c.in_err-names.ensures
 
 pub returns : goal.returns
 returns c = record {
   stands = grammar.supply_item _ _ _ _ _ _ _ _ (record { here = c.requires.begun; after = refl }) c.in_ok-range.ensures.stands c.in_ok-names.ensures.stands.stands c.in_ok-names.ensures.stands.ends;
   goes = follow (passes stays c.in_ok-range.ensures.goes) c.in_ok-names.ensures.goes;
   forward = omega (arith, c.in_ok-range.ensures.forward, c.in_ok-names.ensures.forward);
-  inside = c.in_ok-names.ensures.inside
+  inside = c.in_ok-names.ensures.inside;
 }

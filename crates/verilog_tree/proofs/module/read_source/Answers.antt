@@ -9,7 +9,7 @@ modules-init c = modules_start _ _ c.new-modules.ensures
 pub returns-in_err-module : goal.returns-in_err-module
 returns-in_err-module c =
     source_answered _ c.from_residual.result _ c.from_residual.ensures
-        (fails_after (follow c.modules.invariant.goes (source_module _ _ (search rules))) c.in_err-module.ensures.stands)
+    (fails_after (follow c.modules.invariant.goes (source_module _ _ (search rules))) c.in_err-module.ensures.stands)
 
 pub modules-preserved : goal.modules-preserved
 modules-preserved c = modules_next c.in_ok-push.ensures.ok (search rules) c.modules.invariant c.in_ok-module.ensures.stands

@@ -18,6 +18,6 @@ returns-in-Err-Stuck c =
     let ts = map terminal_at c.args.tokens.now in
     let deep = c.first_deep-deep.result in
     explained ts deep c.in-Err-Stuck.token c.fault_at.result c.first_deep-deep.ensures
-        (subst (λ us. Fails us (source ∷ []) 0 (Stuck c.in-Err-Stuck.token)) c.reader_up_to-reader.ensures
-            (subst (λ stop. Fails c.reader_up_to-reader.result (source ∷ []) 0 stop) c.in-Err-Stuck.field-0-is c.in-Err-Stuck.ensures))
-        (subst (λ us. FaultIs us c.in-Err-Stuck.token deep c.fault_at.result) c.reader_up_to-reader.ensures c.fault_at.ensures)
+    (subst (λ us. Fails us (source ∷ []) 0 (Stuck c.in-Err-Stuck.token)) c.reader_up_to-reader.ensures
+    (subst (λ stop. Fails c.reader_up_to-reader.result (source ∷ []) 0 stop) c.in-Err-Stuck.field-0-is c.in-Err-Stuck.ensures))
+    (subst (λ us. FaultIs us c.in-Err-Stuck.token deep c.fault_at.result) c.reader_up_to-reader.ensures c.fault_at.ensures)

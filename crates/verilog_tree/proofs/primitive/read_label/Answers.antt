@@ -10,7 +10,7 @@ returns-in-Some-Name c = record {
   stands = grammar.present _ _ _ (grammar.name _ _ (record { here = search rules; after = refl }));
   goes = label_begins (search rules);
   forward = omega arith;
-  inside = here_within _ _ Name (search rules)
+  inside = here_within _ _ Name (search rules);
 }
 
 pub returns-in_default : goal.returns-in_default

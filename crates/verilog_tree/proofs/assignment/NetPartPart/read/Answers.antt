@@ -11,12 +11,12 @@ returns-in_err-after c = halted (IsNet c.args.reader.now) c.from_residual.result
 pub returns-in_err-value : goal.returns-in_err-value
 returns-in_err-value c =
     halted (IsNet c.args.reader.now) c.from_residual-in_err-value.result c.from_residual-in_err-value.ensures
-        (passes net_begins c.in_ok-after.ensures.goes) c.in_err-value.ensures
+    (passes net_begins c.in_ok-after.ensures.goes) c.in_err-value.ensures
 
 pub returns : goal.returns
 returns c = record {
   stands = grammar.net _ _ _ _ c.in_ok-after.ensures.is c.in_ok-value.ensures.stands;
   goes = passes (passes net_begins c.in_ok-after.ensures.goes) c.in_ok-value.ensures.goes;
   forward = omega (arith, c.in_ok-after.ensures.forward, c.in_ok-value.ensures.forward);
-  inside = c.in_ok-value.ensures.inside
+  inside = c.in_ok-value.ensures.inside;
 }

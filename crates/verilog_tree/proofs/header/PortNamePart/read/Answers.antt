@@ -6,5 +6,5 @@ returns c = record {
   stands = grammar.plain_port _ _ c.in_ok-next.ensures.is;
   goes = c.in_ok-next.ensures.goes;
   forward = c.in_ok-next.ensures.forward;
-  inside = c.in_ok-next.ensures.inside
+  inside = c.in_ok-next.ensures.inside;
 }

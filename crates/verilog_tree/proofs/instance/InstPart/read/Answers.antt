@@ -11,17 +11,17 @@ returns-in_err-after c = halted (IsInst c.args.reader.now) c.from_residual.resul
 pub returns-in_err-open : goal.returns-in_err-open
 returns-in_err-open c =
     halted (IsInst c.args.reader.now) c.from_residual-in_err-open.result c.from_residual-in_err-open.ensures
-        (passes inst_begins c.in_ok-after.ensures.goes) c.in_err-open.ensures
+    (passes inst_begins c.in_ok-after.ensures.goes) c.in_err-open.ensures
 
 pub returns-in_err-links : goal.returns-in_err-links
 returns-in_err-links c =
     halted (IsInst c.args.reader.now) c.from_residual-in_err-links.result c.from_residual-in_err-links.ensures
-        (passes (passes inst_begins c.in_ok-after.ensures.goes) c.in_ok-open.ensures.goes) c.in_err-links.ensures
+    (passes (passes inst_begins c.in_ok-after.ensures.goes) c.in_ok-open.ensures.goes) c.in_err-links.ensures
 
 pub returns : goal.returns
 returns c = record {
   stands = grammar.inst _ _ _ _ _ _ c.in_ok-after.ensures.is c.in_ok-open.ensures.is c.in_ok-links.ensures.stands.stands c.in_ok-links.ensures.stands.ends;
   goes = passes (passes (passes inst_begins c.in_ok-after.ensures.goes) c.in_ok-open.ensures.goes) c.in_ok-links.ensures.goes;
   forward = omega (arith, c.in_ok-after.ensures.forward, c.in_ok-open.ensures.forward, c.in_ok-links.ensures.forward);
-  inside = c.in_ok-links.ensures.inside
+  inside = c.in_ok-links.ensures.inside;
 }

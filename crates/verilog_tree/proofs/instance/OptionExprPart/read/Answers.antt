@@ -12,12 +12,12 @@ returns-then-not-starts_expr c =
 pub returns-in_err-expr : goal.returns-in_err-expr
 returns-in_err-expr c =
     halted (Optional (IsExpr c.args.reader.now)) c.from_residual.result c.from_residual.ensures
-        (place_begins _ _ (sym c.starts_expr.ensures ∙ c.if-not-starts_expr.false)) c.in_err-expr.ensures
+    (place_begins _ _ (sym c.starts_expr.ensures ∙ c.if-not-starts_expr.false)) c.in_err-expr.ensures
 
 pub returns : goal.returns
 returns c = record {
   stands = grammar.present _ _ _ c.in_ok-expr.ensures.stands;
   goes = follow (place_begins _ _ (sym c.starts_expr.ensures ∙ c.if-not-starts_expr.false)) c.in_ok-expr.ensures.goes;
   forward = c.in_ok-expr.ensures.forward;
-  inside = c.in_ok-expr.ensures.inside
+  inside = c.in_ok-expr.ensures.inside;
 }

@@ -12,12 +12,12 @@ returns-in_err-open c =
 pub returns-in_err-terminals : goal.returns-in_err-terminals
 returns-in_err-terminals c =
     halted_all (IsPrim c.args.reader.now) c.from_residual-in_err-terminals.result c.from_residual-in_err-terminals.ensures
-        (passes (passes prim_begins c.read_label-label.ensures.goes) c.in_ok-open.ensures.goes) c.in_err-terminals.ensures
+    (passes (passes prim_begins c.read_label-label.ensures.goes) c.in_ok-open.ensures.goes) c.in_err-terminals.ensures
 
 pub returns : goal.returns
 returns c = record {
   stands = grammar.prim _ _ _ _ _ _ _ c.read_label-label.ensures.stands c.in_ok-open.ensures.is c.in_ok-terminals.ensures.stands.stands c.in_ok-terminals.ensures.stands.ends;
   goes = follow (passes (passes prim_begins c.read_label-label.ensures.goes) c.in_ok-open.ensures.goes) c.in_ok-terminals.ensures.goes;
   forward = omega (arith, c.read_label-label.ensures.forward, c.in_ok-open.ensures.forward, c.in_ok-terminals.ensures.forward);
-  inside = c.in_ok-terminals.ensures.inside
+  inside = c.in_ok-terminals.ensures.inside;
 }

@@ -10,7 +10,7 @@ returns-in-Some-Wire c = record {
   stands = grammar.a_wire _ _ (record { here = search rules; after = refl });
   goes = wire_begins (search rules);
   forward = omega arith;
-  inside = here_within _ _ Wire (search rules)
+  inside = here_within _ _ Wire (search rules);
 }
 
 pub returns-in_default : goal.returns-in_default
