@@ -13,8 +13,9 @@ use Rattle.verilog_tree.specs.declared.source.Links.TheVariants as connections
 use Rattle.verilog_tree.specs.declared.source.PortName.{PortName}
 use Rattle.verilog_tree.specs.Terminal.{is_plain}
 use Rattle.verilog_tree.specs.Grammar as grammar
-use Rattle.verilog_tree.specs.Grammar.{Is, Commas, first_item, next_item, Optional, absent, present, IsExpr, IsParts, IsLeft, IsLefts, IsName, IsNet, IsPair, IsTerminals, IsPrim, IsLink, IsLinks, IsInst, IsItem, IsPlainPort, IsOne, IsPorts, IsHeader, Many, none, another}
+use Rattle.verilog_tree.specs.Grammar.{Is, Commas, first_item, Optional, absent, present, IsExpr, IsParts, IsLeft, IsLefts, IsName, IsNet, IsPair, IsTerminals, IsPrim, IsLink, IsLinks, IsInst, IsItem, IsPlainPort, IsOne, IsPorts, IsHeader, Many, none}
 use Rattle.verilog_tree.specs.Predict.{Symbol, Choice, Begins, Skips, Wrong, is_same, after, after_expr, after_left, after_ports, after_header, after_one, after_port, after_items, after_item, after_number, after_due, after_wire, after_range, after_select, after_select_end, after_brace, after_value, after_label, after_prim, after_link, after_links, after_more, then_due, or_absent, source, module_, ports, header, one, port, items, item, number, due, wire, range, select, select_end, expr, brace, left, place, value, net, pair, label, prim, inst, links, link, more, Closed, IsLater, with_direction, bare}
+use Rattle.verilog_tree.proofs.Pushing.{another, left_next, next_item, part_next}
 use Rattle.verilog_tree.proofs.Instances.{not_alone}
 use Rattle.verilog_tree.proofs.Standing.{Runs, last, again, Same, exactly, CommaThen, Stands, Due}
 
@@ -47,12 +48,12 @@ listed ts x end X p into k m n s tail =
 
 parts_closed : (ts : List Terminal) (k m n : ℕ) → Stands ts expr k m → Stands ts (more expr CloseBrace) m n → (es : List Expr) × Closed ts (IsParts ts) CloseBrace k n es
 parts_closed ts k m n s tail =
-    closing ts expr CloseBrace (IsParts ts) refl (λ j i l es r c. (es ++ c.stands.0 ∷ [], grammar.part_next j i c.place l es c.stands.0 r c.is c.stands.1))
+    closing ts expr CloseBrace (IsParts ts) refl (λ j i l es r c. (es ++ c.stands.0 ∷ [], part_next j i c.place l es c.stands.0 r c.is c.stands.1))
     k m n (s.0 ∷ []) (grammar.part_first k m s.0 s.1) tail
 
 lefts_closed : (ts : List Terminal) (k m n : ℕ) → Stands ts left k m → Stands ts (more left CloseBrace) m n → (es : List Expr) × Closed ts (IsLefts ts) CloseBrace k n es
 lefts_closed ts k m n s tail =
-    closing ts left CloseBrace (IsLefts ts) refl (λ j i l es r c. (es ++ c.stands.0 ∷ [], grammar.left_next j i c.place l es c.stands.0 r c.is c.stands.1))
+    closing ts left CloseBrace (IsLefts ts) refl (λ j i l es r c. (es ++ c.stands.0 ∷ [], left_next j i c.place l es c.stands.0 r c.is c.stands.1))
     k m n (s.0 ∷ []) (grammar.left_first k m s.0 s.1) tail
 
 terminals_closed : (ts : List Terminal) (k a b c n : ℕ) → Stands ts expr k a → Is ts a Comma b → Stands ts expr b c → Stands ts (more expr CloseParen) c n →

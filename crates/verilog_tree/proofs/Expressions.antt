@@ -10,6 +10,7 @@ use Rattle.verilog_tree.specs.declared.source.Expr.TheVariants as tree
 use Rattle.verilog_tree.specs.Grammar as grammar
 use Rattle.verilog_tree.specs.Grammar.{Is, IsNamed, IsExpr, IsParts}
 use Rattle.verilog_tree.specs.Predict.{Symbol, Begins, Skips, Wrong, after_expr, after_brace, then_due, number, due, more, select, expr, brace, Leads, Fails, Passes, Answers, Reads, Separates, Closes, Closed, Gathers}
+use Rattle.verilog_tree.proofs.Pushing.{part_next}
 use Rattle.verilog_tree.proofs.Due.{begins, passes, passes_two, follow, fails_after, fails_from, fails_two, unfolds, answers_from, wrong, here_within}
 use Rattle.verilog_tree.proofs.Gathering.{gathers_first, gathers_next}
 
@@ -114,4 +115,4 @@ pub parts_next : {ts : List Terminal} {k m n : ℕ} {e : Expr} {es later : List 
     Gathers ts (expr ∷ more expr CloseBrace ∷ []) expr CloseBrace (IsParts ts) k m es → Separates ts CloseBrace m →
     Reads ts (expr ∷ []) (IsExpr ts) (m + 1) n e → Gathers ts (expr ∷ more expr CloseBrace ∷ []) expr CloseBrace (IsParts ts) k n later
 parts_next {ts} {k} {m} {n} {e} {es} f g s r =
-    subst (λ l. Gathers ts (expr ∷ more expr CloseBrace ∷ []) expr CloseBrace (IsParts ts) k n l) (sym f) (gathers_next (grammar.part_next k m (m + 1) n es e) g s r)
+    subst (λ l. Gathers ts (expr ∷ more expr CloseBrace ∷ []) expr CloseBrace (IsParts ts) k n l) (sym f) (gathers_next (part_next k m (m + 1) n es e) g s r)

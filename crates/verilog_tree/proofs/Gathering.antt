@@ -5,8 +5,9 @@ use Rattle.verilog_tree.specs.declared.reader.Read.{Read}
 use Rattle.verilog_tree.specs.declared.terminal.Terminal.{Terminal}
 use Rattle.verilog_tree.specs.declared.terminal.Terminal.TheVariants.{Comma}
 use Rattle.verilog_tree.specs.declared.reader.Stop.{Stop as StopOf}
-use Rattle.verilog_tree.specs.Grammar.{Is, Commas, first_item, next_item}
+use Rattle.verilog_tree.specs.Grammar.{Is, Commas, first_item}
 use Rattle.verilog_tree.specs.Predict.{Symbol, more, Leads, Fails, Reads, Separates, Closes, Closed, Gathers, Continues, Extends, Answers}
+use Rattle.verilog_tree.proofs.Pushing.{next_item}
 use Rattle.verilog_tree.proofs.Due.{passes, follow, fails_after, fails_from, answered}
 
 -- the first item fails

@@ -7,8 +7,9 @@ use Rattle.verilog_tree.specs.declared.reader.Stop.{Stop as StopOf}
 use Rattle.verilog_tree.specs.declared.reader.Stop.TheVariants as Stop
 use Rattle.verilog_tree.specs.declared.source.Dir.{Dir}
 use Rattle.verilog_tree.specs.declared.source.Item.{Item}
-use Rattle.verilog_tree.specs.Grammar.{Is, IsItem, Many, another, none}
+use Rattle.verilog_tree.specs.Grammar.{Is, IsItem, Many, none}
 use Rattle.verilog_tree.specs.Predict.{Symbol, Begins, Wrong, after, after_item, item, items, Leads, Fails, Reads, Closed, Answers}
+use Rattle.verilog_tree.proofs.Pushing.{another}
 use Rattle.verilog_tree.proofs.Due.{begins, wrong, answers_from, further, here_within, passes, follow}
 use Rattle.verilog_tree.proofs.Begins.{items_item, items_end}
 

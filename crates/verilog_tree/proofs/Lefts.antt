@@ -10,6 +10,7 @@ use Rattle.verilog_tree.specs.declared.source.Expr.TheVariants as tree
 use Rattle.verilog_tree.specs.Grammar as grammar
 use Rattle.verilog_tree.specs.Grammar.{Is, IsNamed, IsLeft, IsLefts}
 use Rattle.verilog_tree.specs.Predict.{Begins, Wrong, after_left, more, select, left, Leads, Fails, Answers, Reads, Separates, Closed, Gathers}
+use Rattle.verilog_tree.proofs.Pushing.{left_next}
 use Rattle.verilog_tree.proofs.Due.{begins, follow, fails_from, answers_from, wrong}
 use Rattle.verilog_tree.proofs.Gathering.{gathers_first, gathers_next}
 
@@ -55,4 +56,4 @@ pub parts_next : {ts : List Terminal} {k m n : ℕ} {e : Expr} {es later : List 
     Gathers ts (left ∷ more left CloseBrace ∷ []) left CloseBrace (IsLefts ts) k m es → Separates ts CloseBrace m →
     Reads ts (left ∷ []) (IsLeft ts) (m + 1) n e → Gathers ts (left ∷ more left CloseBrace ∷ []) left CloseBrace (IsLefts ts) k n later
 parts_next {ts} {k} {m} {n} {e} {es} f g s r =
-    subst (λ l. Gathers ts (left ∷ more left CloseBrace ∷ []) left CloseBrace (IsLefts ts) k n l) (sym f) (gathers_next (grammar.left_next k m (m + 1) n es e) g s r)
+    subst (λ l. Gathers ts (left ∷ more left CloseBrace ∷ []) left CloseBrace (IsLefts ts) k n l) (sym f) (gathers_next (left_next k m (m + 1) n es e) g s r)

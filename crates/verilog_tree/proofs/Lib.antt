@@ -19,3 +19,5 @@ pub mod Backward
 pub mod Viable
 pub mod Dives
 pub mod Parsing
+pub mod Pushing
+pub mod LawsOfTexts

@@ -7,8 +7,9 @@ use Rattle.verilog_tree.specs.declared.terminal.Terminal.TheVariants.{Module}
 use Rattle.verilog_tree.specs.declared.source.Module.{Module as ModuleTree}
 use Rattle.verilog_tree.specs.declared.reader.Stop.{Stop as StopOf}
 use Rattle.verilog_tree.specs.declared.source.Source.{Source}
-use Rattle.verilog_tree.specs.Grammar.{IsModule, Many, another, none}
+use Rattle.verilog_tree.specs.Grammar.{IsModule, Many, none}
 use Rattle.verilog_tree.specs.Predict.{Symbol, source, module_, is_end, next, fault, Leads, Fails, Reads, SourceAnswers}
+use Rattle.verilog_tree.proofs.Pushing.{another}
 use Rattle.verilog_tree.proofs.Due.{drop_end, passes, follow}
 use Rattle.verilog_tree.proofs.Begins.{alike}
 

@@ -4,7 +4,7 @@ use Rattle.verilog_tree.specs.declared.terminal.Terminal.{Terminal}
 use Rattle.verilog_tree.specs.declared.terminal.Terminal.TheVariants.{Name, Number, Constant, OpenBracket, CloseBracket, OpenBrace, CloseBrace, Comma, Colon}
 use Rattle.verilog_tree.specs.declared.source.Expr.{Expr}
 use Rattle.verilog_tree.specs.Terminal.{code_of}
-use Rattle.verilog_tree.specs.Grammar.{Is, IsNumber, Commas, first_item, next_item, IsRange, Optional, absent, present, IsNamed, whole, bit, part, IsLeft, left_named, left_join, IsLefts, left_first, left_next, IsExpr, expr_named, expr_constant, expr_join, expr_repeat, IsParts, part_first, part_next}
+use Rattle.verilog_tree.specs.Grammar.{Is, IsNumber, Commas, first_item, more_items, IsRange, Optional, absent, present, IsNamed, whole, bit, part, IsLeft, left_named, left_join, IsLefts, left_first, more_lefts, IsExpr, expr_named, expr_constant, expr_join, expr_repeat, IsParts, part_first, more_parts}
 use Rattle.verilog_tree.specs.Grammar as grammar
 use Rattle.verilog_tree.specs.Predict.{Symbol, Begins, Skips, Wrong, after, after_select, after_more, is_same, number, due, more, select, select_end, range, expr, brace, left, starts, next, Leads}
 use Rattle.verilog_tree.proofs.Due.{begins, passes, passes_two, follow, skips, stays}
@@ -79,7 +79,7 @@ expr_starts ts _ _ _ (expr_repeat k a b c d e n v es i w o s z y) = ap starts i.
 
 parts_start : (ts : List Terminal) (k n : ℕ) (es : List Expr) → IsParts ts k n es → starts (slice_get ts k) ≡ true
 parts_start ts _ _ _ (part_first k n e s) = expr_starts ts k n e s
-parts_start ts _ _ _ (part_next k a b n es e c i s) = parts_start ts k a es c
+parts_start ts _ _ _ (more_parts k a b n e es s i c) = expr_starts ts k a e s
 
 no_number : (ts : List Terminal) (k : ℕ) → starts (slice_get ts k) ≡ true → (v : ℕ) → slice_get ts k ≡ Some (Number v) → ⊥
 no_number ts k s v e = (let no : false ≡ true = ap starts (sym e) ∙ s in cc)
@@ -110,9 +110,9 @@ mutual
   pub parts_go : (ts : List Terminal) (k n : ℕ) (es : List Expr) → IsParts ts k n es → After ts CloseBrace n →
       Leads ts (expr ∷ more expr CloseBrace ∷ []) k (more expr CloseBrace ∷ []) n
   parts_go ts _ _ _ (part_first k n e s) f = passes stays (expr_goes ts k n e s (not_after ts CloseBrace OpenBracket n f (λ x. cc) (λ x. cc)))
-  parts_go ts _ _ _ (part_next k a b n es e c i s) f =
-      passes (follow (parts_go ts k a es c (after_comma CloseBrace i)) (step (expr ∷ more expr CloseBrace ∷ []) i refl))
-      (expr_goes ts b n e s (not_after ts CloseBrace OpenBracket n f (λ x. cc) (λ x. cc)))
+  parts_go ts _ _ _ (more_parts k a b n e es s i c) f =
+      follow (follow (passes stays (expr_goes ts k a e s (free ts a b Comma i (λ x. cc)))) (step (expr ∷ more expr CloseBrace ∷ []) i refl))
+      (parts_go ts b n es c f)
 
 mutual
   pub left_goes : (ts : List Terminal) (k n : ℕ) (e : Expr) → IsLeft ts k n e → Free ts n → Leads ts (left ∷ []) k [] n
@@ -124,17 +124,17 @@ mutual
   lefts_go : (ts : List Terminal) (k n : ℕ) (es : List Expr) → IsLefts ts k n es → After ts CloseBrace n →
       Leads ts (left ∷ more left CloseBrace ∷ []) k (more left CloseBrace ∷ []) n
   lefts_go ts _ _ _ (left_first k n e s) f = passes stays (left_goes ts k n e s (not_after ts CloseBrace OpenBracket n f (λ x. cc) (λ x. cc)))
-  lefts_go ts _ _ _ (left_next k a b n es e c i s) f =
-      passes (follow (lefts_go ts k a es c (after_comma CloseBrace i)) (step (left ∷ more left CloseBrace ∷ []) i refl))
-      (left_goes ts b n e s (not_after ts CloseBrace OpenBracket n f (λ x. cc) (λ x. cc)))
+  lefts_go ts _ _ _ (more_lefts k a b n e es s i c) f =
+      follow (follow (passes stays (left_goes ts k a e s (free ts a b Comma i (λ x. cc)))) (step (left ∷ more left CloseBrace ∷ []) i refl))
+      (lefts_go ts b n es c f)
 
 -- a list whose items are passed where a comma or the end follows
 pub commas_go : {A : Type 0} (ts : List Terminal) (x : Symbol) (end : Terminal) (X : ℕ → ℕ → A → Type 0) →
     ((k n : ℕ) (a : A) → X k n a → After ts end n → Leads ts (x ∷ []) k [] n) →
     (k n : ℕ) (xs : List A) → Commas ts X k n xs → After ts end n → Leads ts (x ∷ more x end ∷ []) k (more x end ∷ []) n
 commas_go ts x end X goes _ _ _ (first_item k n a s) f = passes stays (goes k n a s f)
-commas_go ts x end X goes _ _ _ (next_item k a b n xs y c i s) f =
-    passes (follow (commas_go ts x end X goes k a xs c (after_comma end i)) (step (x ∷ more x end ∷ []) i refl)) (goes b n y s f)
+commas_go ts x end X goes _ _ _ (more_items k a b n y xs s i c) f =
+    follow (follow (passes stays (goes k a y s (after_comma end i))) (step (x ∷ more x end ∷ []) i refl)) (commas_go ts x end X goes b n xs c f)
 
 pub commas_close : {A : Type 0} (ts : List Terminal) (x : Symbol) (end : Terminal) (X : ℕ → ℕ → A → Type 0) → (end ≡ Comma → ⊥) →
     ((k n : ℕ) (a : A) → X k n a → After ts end n → Leads ts (x ∷ []) k [] n) →
@@ -145,4 +145,4 @@ commas_close ts x end X other goes k m n xs c i = follow (commas_go ts x end X g
 pub commas_here : {A : Type 0} (ts : List Terminal) (X : ℕ → ℕ → A → Type 0) (P : ℕ → Type 0) → ((k n : ℕ) (a : A) → X k n a → P k) →
     (k n : ℕ) (xs : List A) → Commas ts X k n xs → P k
 commas_here ts X P at _ _ _ (first_item k n a s) = at k n a s
-commas_here ts X P at _ _ _ (next_item k a b n xs y c i s) = commas_here ts X P at k a xs c
+commas_here ts X P at _ _ _ (more_items k a b n y xs s i c) = at k a y s

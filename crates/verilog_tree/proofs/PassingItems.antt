@@ -15,7 +15,7 @@ use Rattle.verilog_tree.specs.declared.source.NetPart.{NetPart}
 use Rattle.verilog_tree.specs.declared.source.PortName.{PortName}
 use Rattle.verilog_tree.specs.declared.source.Prim.{Prim}
 use Rattle.verilog_tree.specs.Grammar as grammar
-use Rattle.verilog_tree.specs.Grammar.{Is, Commas, Optional, absent, present, IsRange, IsExpr, IsLeft, IsName, name, IsValue, IsNet, IsPair, IsTerminals, terminals, IsPrim, IsLink, IsLinks, no_links, ordered, by_name, IsInst, IsWire, no_wire, a_wire, IsItem, ports_item, nets_item, supply_item, assign_item, gates_item, instances_item, IsPlainPort, plain_port, IsOne, IsPorts, first_port, next_one, next_name, IsHeader, no_header, names, directions, IsHead, no_head, head, Many, none, another, IsModule, first_item, next_item}
+use Rattle.verilog_tree.specs.Grammar.{Is, Commas, Optional, absent, present, IsRange, IsExpr, IsLeft, IsName, name, IsValue, IsNet, IsPair, IsTerminals, terminals, IsPrim, IsLink, IsLinks, no_links, ordered, by_name, IsInst, IsWire, no_wire, a_wire, IsItem, ports_item, nets_item, supply_item, assign_item, gates_item, instances_item, IsPlainPort, plain_port, IsOne, IsPorts, first_port, next_one, next_name, IsHeader, no_header, names, directions, IsHead, no_head, head, Many, none, and_more, IsModule, first_item, more_items}
 use Rattle.verilog_tree.specs.Predict.{Symbol, Begins, Skips, Wrong, after, after_range, number, due, more, source, module_, ports, header, one, port, items, item, wire, range, expr, left, place, value, net, pair, label, prim, inst, links, link, starts, next, fault, Leads}
 use Rattle.verilog_tree.proofs.Due.{begins, passes, passes_two, follow, skips, stays}
 use Rattle.verilog_tree.proofs.Begins.{alike, net_begins, pair_begins, inst_begins, link_begins, module_begins, prim_begins, links_named, links_ordered, links_end, place_begins, place_absent, value_absent, label_absent, wire_absent, ports_absent, header_end, header_directions, header_names, port_one, items_item}
@@ -74,12 +74,9 @@ terminal_goes ts k n e s f = expr_goes ts k n e s (not_after ts CloseParen OpenB
 terminals_go : (ts : List Terminal) (k n : ℕ) (es : List Expr) → Commas ts (IsExpr ts) k n es → 2 ≤ length es → After ts CloseParen n →
     Leads ts (expr ∷ due Comma ∷ expr ∷ more expr CloseParen ∷ []) k (more expr CloseParen ∷ []) n
 terminals_go ts _ _ _ (first_item k n e s) two f = absurd (omega arith)
-terminals_go ts _ _ _ (next_item k a b n _ y (first_item _ _ e r) i s) two f =
-    passes (passes (passes stays (terminal_goes ts k a e r (after_comma CloseParen i))) (is_goes i)) (terminal_goes ts b n y s f)
-terminals_go ts _ _ _ (next_item k a b n _ y (next_item _ c d _ xs z g j r) i s) two f =
-    let some : 1 ≤ length xs = commas_length ts (IsExpr ts) k c xs g in
-    passes (follow (terminals_go ts k a (xs ++ z ∷ []) (next_item k c d a xs z g j r) (simp length-append (omega arith)) (after_comma CloseParen i))
-    (step (expr ∷ more expr CloseParen ∷ []) i refl)) (terminal_goes ts b n y s f)
+terminals_go ts _ _ _ (more_items k a b n e es s i c) two f =
+    follow (passes (passes stays (terminal_goes ts k a e s (after_comma CloseParen i))) (is_goes i))
+        (commas_go ts expr CloseParen (IsExpr ts) (terminal_goes ts) b n es c f)
 
 label_goes : (ts : List Terminal) (k n m : ℕ) (l : Option ℕ) → Optional (IsName ts) k n l → Is ts n OpenParen m → Leads ts (label ∷ []) k [] n
 label_goes ts _ _ m _ (absent k) i = label_absent ts k (λ e. (let h : slice_get ts k ≡ Some OpenParen = i.here in cc))
@@ -114,13 +111,12 @@ places_here ts _ _ _ (first_item k n o s) = go k n o s
     go : (k n : ℕ) (o : Option Expr) → Optional (IsExpr ts) k n o → (starts (slice_get ts k) ≡ true) ⊎ ((slice_get ts k ≡ Some Comma) ⊎ ((n ≡ k) × (o ∷ [] ≡ None ∷ [])))
     go _ _ _ (absent k) = inr (inr (refl, refl))
     go _ _ _ (present k n e s) = inl (expr_starts ts k n e s)
-places_here ts _ _ _ (next_item k a b n xs y c i s) = go (places_here ts k a xs c)
+places_here ts _ _ _ (more_items k a b n o xs s i c) = go k a b o s i
   where
-    go : (starts (slice_get ts k) ≡ true) ⊎ ((slice_get ts k ≡ Some Comma) ⊎ ((a ≡ k) × (xs ≡ None ∷ []))) →
-        (starts (slice_get ts k) ≡ true) ⊎ ((slice_get ts k ≡ Some Comma) ⊎ ((n ≡ k) × (xs ++ y ∷ [] ≡ None ∷ [])))
-    go (inl e) = inl e
-    go (inr (inl e)) = inr (inl e)
-    go (inr (inr w)) = inr (inl (subst (λ (j : ℕ). slice_get ts j ≡ Some Comma) w.0 i.here))
+    go : (k a b : ℕ) (o : Option Expr) → Optional (IsExpr ts) k a o → Is ts a Comma b →
+        (starts (slice_get ts k) ≡ true) ⊎ ((slice_get ts k ≡ Some Comma) ⊎ ((n ≡ k) × (o ∷ xs ≡ None ∷ [])))
+    go _ _ b _ (absent k) i = inr (inl i.here)
+    go _ _ b _ (present k a e s) i = inl (expr_starts ts k a e s)
 
 links_go : (ts : List Terminal) (k m n : ℕ) (x : Links) → IsLinks ts k m x → Is ts m CloseParen n → Leads ts (links ∷ []) k [] n
 links_go ts _ _ n _ (no_links k) z = step [] z refl
@@ -212,8 +208,8 @@ item_no_end ts _ _ _ (instances_item k a b n xs i s z) e = (let g : slice_get ts
 
 items_go : (ts : List Terminal) (k n : ℕ) (xs : List Item) → Many (IsItem ts) k n xs → Leads ts (items ∷ []) k (items ∷ []) n
 items_go ts _ _ _ (none k) = stays
-items_go ts _ _ _ (another k a n xs x s i) =
-    passes (follow (items_go ts k a xs s) (items_item ts a (item_no_end ts a n x i))) (item_goes ts a n x i)
+items_go ts _ _ _ (and_more k a n x xs i s) =
+    follow (passes (items_item ts k (item_no_end ts k a x i)) (item_goes ts k a x i)) (items_go ts a n xs s)
 
 module_goes : (ts : List Terminal) (k n : ℕ) (x : ModuleTree) → IsModule ts k n x → Leads ts (module_ ∷ []) k [] n
 module_goes ts _ _ _ (grammar.module_ k a b c d e n ps xs i j h z s y) =
@@ -230,5 +226,5 @@ module_here ts _ _ _ (grammar.module_ k a b c d e n ps xs i j h z s y) = i.here
 -- prediction passes all that is a source text
 pub source_goes : (ts : List Terminal) (k n : ℕ) (xs : List ModuleTree) → Many (IsModule ts) k n xs → Leads ts (source ∷ []) k (source ∷ []) n
 source_goes ts _ _ _ (none k) = stays
-source_goes ts _ _ _ (another k a n xs x s i) =
-    passes (follow (source_goes ts k a xs s) (source_module ts a (module_here ts a n x i))) (module_goes ts a n x i)
+source_goes ts _ _ _ (and_more k a n x xs i s) =
+    follow (passes (source_module ts k (module_here ts k a x i)) (module_goes ts k a x i)) (source_goes ts a n xs s)

@@ -3,8 +3,9 @@ use Rattle.std.proofs.Common.{◌≡◌, ℕ, ◌+◌, ◌≤◌, List, [], ◌�
 use Rattle.verilog_tree.specs.declared.terminal.Terminal.{Terminal}
 use Rattle.verilog_tree.specs.declared.terminal.Terminal.TheVariants.{Comma, CloseParen}
 use Rattle.verilog_tree.specs.declared.source.Expr.{Expr}
-use Rattle.verilog_tree.specs.Grammar.{Is, IsExpr, Commas, first_item, next_item, IsTerminals, terminals}
+use Rattle.verilog_tree.specs.Grammar.{Is, IsExpr, Commas, first_item, IsTerminals, terminals}
 use Rattle.verilog_tree.specs.Predict.{Closed, Extends}
+use Rattle.verilog_tree.proofs.Pushing.{next_item}
 
 -- two terminals, and then the rest
 pub terminals_closed : {ts : List Terminal} {k a b m n : ℕ} {e f : Expr} {none first second es : List Expr} →

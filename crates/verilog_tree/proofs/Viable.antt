@@ -11,10 +11,11 @@ use Rattle.verilog_tree.specs.declared.source.Source.{Source}
 use Rattle.verilog_tree.specs.declared.source.Expr.TheVariants as tree
 use Rattle.verilog_tree.specs.Terminal.{code_of}
 use Rattle.verilog_tree.specs.Grammar as grammar
-use Rattle.verilog_tree.specs.Grammar.{Is, IsModule, IsSource, Many, none, another, absent, no_wire, no_head}
+use Rattle.verilog_tree.specs.Grammar.{Is, IsModule, IsSource, Many, none, absent, no_wire, no_head}
 use Rattle.verilog_tree.specs.Source as text
 use Rattle.verilog_tree.specs.Source.{FirstFault}
 use Rattle.verilog_tree.specs.Predict.{Symbol, Choice, Begins, Skips, Wrong, is_same, after, next, onward, fault, is_end, source, module_, ports, header, one, port, items, item, number, due, wire, range, select, select_end, expr, brace, left, place, value, net, pair, label, prim, inst, links, link, more}
+use Rattle.verilog_tree.proofs.Pushing.{another}
 use Rattle.verilog_tree.proofs.Due.{drop_here, drop_end}
 use Rattle.verilog_tree.proofs.Terminals.{is_same_self}
 use Rattle.verilog_tree.proofs.Standing.{Runs, last, again, Same, CommaThen, Stands, Due}

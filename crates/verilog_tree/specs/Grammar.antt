@@ -39,8 +39,8 @@ pub data Optional {A : Type 0} (X : ℕ → ℕ → A → Type 0) : ℕ → ℕ 
 -- X { "," X }
 pub data Commas {A : Type 0} (ts : List Terminal) (X : ℕ → ℕ → A → Type 0) : ℕ → ℕ → List A → Type 0 where
   first_item : (k n : ℕ) (a : A) → X k n a → Commas ts X k n (a ∷ [])
-  next_item : (k a b n : ℕ) (xs : List A) (x : A) →
-      Commas ts X k a xs → Is ts a Comma b → X b n x → Commas ts X k n (xs ++ x ∷ [])
+  more_items : (k a b n : ℕ) (x : A) (xs : List A) →
+      X k a x → Is ts a Comma b → Commas ts X b n xs → Commas ts X k n (x ∷ xs)
 
 -- range = "[" NUM ":" NUM "]"
 pub data IsRange (ts : List Terminal) : ℕ → ℕ → IndexRange → Type 0 where
@@ -70,8 +70,8 @@ mutual
 
   pub data IsLefts (ts : List Terminal) : ℕ → ℕ → List Expr → Type 0 where
     left_first : (k n : ℕ) (e : Expr) → IsLeft ts k n e → IsLefts ts k n (e ∷ [])
-    left_next : (k a b n : ℕ) (es : List Expr) (e : Expr) →
-        IsLefts ts k a es → Is ts a Comma b → IsLeft ts b n e → IsLefts ts k n (es ++ e ∷ [])
+    more_lefts : (k a b n : ℕ) (e : Expr) (es : List Expr) →
+        IsLeft ts k a e → Is ts a Comma b → IsLefts ts b n es → IsLefts ts k n (e ∷ es)
 
 -- expr = NAME [ select ] | CONST | "{" expr { "," expr } "}"
 --      | "{" NUM "{" expr { "," expr } "}" "}"
@@ -89,8 +89,8 @@ mutual
 
   pub data IsParts (ts : List Terminal) : ℕ → ℕ → List Expr → Type 0 where
     part_first : (k n : ℕ) (e : Expr) → IsExpr ts k n e → IsParts ts k n (e ∷ [])
-    part_next : (k a b n : ℕ) (es : List Expr) (e : Expr) →
-        IsParts ts k a es → Is ts a Comma b → IsExpr ts b n e → IsParts ts k n (es ++ e ∷ [])
+    more_parts : (k a b n : ℕ) (e : Expr) (es : List Expr) →
+        IsExpr ts k a e → Is ts a Comma b → IsParts ts b n es → IsParts ts k n (e ∷ es)
 
 -- NAME, whose place the tree holds
 pub data IsName (ts : List Terminal) : ℕ → ℕ → ℕ → Type 0 where
@@ -205,7 +205,7 @@ pub data IsHead (ts : List Terminal) : ℕ → ℕ → List PortName → Type 0 
 -- { X }
 pub data Many {A : Type 0} (X : ℕ → ℕ → A → Type 0) : ℕ → ℕ → List A → Type 0 where
   none : (k : ℕ) → Many X k k []
-  another : (k a n : ℕ) (xs : List A) (x : A) → Many X k a xs → X a n x → Many X k n (xs ++ x ∷ [])
+  and_more : (k a n : ℕ) (x : A) (xs : List A) → X k a x → Many X a n xs → Many X k n (x ∷ xs)
 
 -- module = "module" NAME [ "(" [ header ] ")" ] ";" { item } "endmodule"
 pub data IsModule (ts : List Terminal) : ℕ → ℕ → ModuleTree → Type 0 where

@@ -1,4 +1,5 @@
 pub mod Grammar
+pub mod Laws
 pub mod Parsing
 pub mod Predict
 pub mod Source

@@ -16,7 +16,7 @@ mod terminal;
 #[cfg(test)]
 mod tests;
 
-pub use parser::{ParseFault, parse};
+pub use parser::{ParseFault, parse, texts_are_read};
 pub use source::{
     AssignPair, Dir, Expr, IndexRange, Inst, Item, Links, Module, NamedLink, NetPart, PortName,
     Prim, Source,

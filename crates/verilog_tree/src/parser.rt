@@ -1,6 +1,7 @@
 //! The tree of a list of tokens, or the place where no text has them.
 
 ghost use Rattle.std.specs.Prelude.{◌≡◌, ◌<◌, length, map};
+ghost use Rattle.verilog_tree.specs.Laws.{TextsAreRead};
 ghost use Rattle.verilog_tree.specs.Parsing.{FaultIs, readable};
 ghost use Rattle.verilog_tree.specs.Source.{Explains, IsFirstDeep};
 ghost use Rattle.verilog_tree.specs.Terminal.{terminal_at};
@@ -93,4 +94,10 @@ fn fault_at(reader: &Reader, token: u32, deep: Option<u32>) -> ParseFault
     } else {
         ParseFault::Expected { token }
     }
+}
+
+/// A law: the tokens of a text of the grammar, with at most 64 braces open at once, have no fault.
+pub fn texts_are_read()
+    ensures { TextsAreRead }
+{
 }
