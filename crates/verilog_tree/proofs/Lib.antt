@@ -21,3 +21,4 @@ pub mod Dives
 pub mod Parsing
 pub mod Pushing
 pub mod LawsOfTexts
+pub mod Unique
