@@ -22,3 +22,4 @@ pub mod Parsing
 pub mod Pushing
 pub mod LawsOfTexts
 pub mod Unique
+pub mod UniqueItems

@@ -48,7 +48,7 @@ name_goes ts end _ _ _ (name k n i) f = is_goes i
 name_here : (ts : List Terminal) (k n a : ℕ) → IsName ts k n a → slice_get ts k ≡ Some Name
 name_here ts _ _ _ (name k n i) = i.here
 
-names_here : (ts : List Terminal) (k n : ℕ) (xs : List ℕ) → Commas ts (IsName ts) k n xs → slice_get ts k ≡ Some Name
+pub names_here : (ts : List Terminal) (k n : ℕ) (xs : List ℕ) → Commas ts (IsName ts) k n xs → slice_get ts k ≡ Some Name
 names_here ts k n xs c = commas_here ts (IsName ts) (λ j. slice_get ts j ≡ Some Name) (name_here ts) k n xs c
 
 value_goes : (ts : List Terminal) (k n : ℕ) (v : Option Expr) → Optional (IsValue ts) k n v → After ts Semicolon n → Leads ts (value ∷ []) k [] n
@@ -59,7 +59,7 @@ value_goes ts _ _ _ (present k n _ (grammar.value _ a _ e i s)) f =
 net_goes : (ts : List Terminal) (k n : ℕ) (x : NetPart) → IsNet ts k n x → After ts Semicolon n → Leads ts (net ∷ []) k [] n
 net_goes ts _ _ _ (grammar.net k a n v i s) f = passes (passes net_begins (is_goes i)) (value_goes ts a n v s f)
 
-net_here : (ts : List Terminal) (k n : ℕ) (x : NetPart) → IsNet ts k n x → slice_get ts k ≡ Some Name
+pub net_here : (ts : List Terminal) (k n : ℕ) (x : NetPart) → IsNet ts k n x → slice_get ts k ≡ Some Name
 net_here ts _ _ _ (grammar.net k a n v i s) = i.here
 
 pair_goes : (ts : List Terminal) (k n : ℕ) (x : AssignPair) → IsPair ts k n x → After ts Semicolon n → Leads ts (pair ∷ []) k [] n
@@ -100,11 +100,11 @@ link_goes : (ts : List Terminal) (k n : ℕ) (x : NamedLink) → IsLink ts k n x
 link_goes ts _ _ _ (grammar.link k a b c d n e i j o s z) f =
     passes (passes (passes (passes (passes link_begins (is_goes i)) (is_goes j)) (is_goes o)) (place_goes ts c d e s (after_end z))) (is_goes z)
 
-link_here : (ts : List Terminal) (k n : ℕ) (x : NamedLink) → IsLink ts k n x → slice_get ts k ≡ Some Dot
+pub link_here : (ts : List Terminal) (k n : ℕ) (x : NamedLink) → IsLink ts k n x → slice_get ts k ≡ Some Dot
 link_here ts _ _ _ (grammar.link k a b c d n e i j o s z) = i.here
 
 -- places begin with an expression, a comma, or nothing before the end
-places_here : (ts : List Terminal) (k n : ℕ) (xs : List (Option Expr)) → Commas ts (Optional (IsExpr ts)) k n xs →
+pub places_here : (ts : List Terminal) (k n : ℕ) (xs : List (Option Expr)) → Commas ts (Optional (IsExpr ts)) k n xs →
     (starts (slice_get ts k) ≡ true) ⊎ ((slice_get ts k ≡ Some Comma) ⊎ ((n ≡ k) × (xs ≡ None ∷ [])))
 places_here ts _ _ _ (first_item k n o s) = go k n o s
   where
