@@ -23,3 +23,4 @@ pub mod Pushing
 pub mod LawsOfTexts
 pub mod Unique
 pub mod UniqueItems
+pub mod UniqueModules

@@ -160,7 +160,7 @@ item_goes ts _ _ _ (instances_item k a b n xs i s z) =
 plain_goes : (ts : List Terminal) (k n : ℕ) (p : PortName) → IsPlainPort ts k n p → After ts CloseParen n → Leads ts (due Name ∷ []) k [] n
 plain_goes ts _ _ _ (plain_port k n i) f = is_goes i
 
-plain_here : (ts : List Terminal) (k n : ℕ) (p : PortName) → IsPlainPort ts k n p → slice_get ts k ≡ Some Name
+pub plain_here : (ts : List Terminal) (k n : ℕ) (p : PortName) → IsPlainPort ts k n p → slice_get ts k ≡ Some Name
 plain_here ts _ _ _ (plain_port k n i) = i.here
 
 one_goes : (ts : List Terminal) (k n : ℕ) (p : PortName) → IsOne ts k n p → Leads ts (one ∷ []) k [] n
@@ -168,7 +168,7 @@ one_goes ts _ _ _ (grammar.one k a b c n d r i w o z) =
     let q = range_goes ts b c r o z.here in
     passes (passes (passes (step (wire ∷ range ∷ due Name ∷ []) i refl) (wire_goes ts a b w q.1)) q.0) (is_goes z)
 
-one_here : (ts : List Terminal) (k n : ℕ) (p : PortName) → IsOne ts k n p → (d : Dir) × (slice_get ts k ≡ Some (Direction d))
+pub one_here : (ts : List Terminal) (k n : ℕ) (p : PortName) → IsOne ts k n p → (d : Dir) × (slice_get ts k ≡ Some (Direction d))
 one_here ts _ _ _ (grammar.one k a b c n d r i w o z) = (d, i.here)
 
 one_no_name : (ts : List Terminal) (k n : ℕ) (p : PortName) → IsOne ts k n p → slice_get ts k ≡ Some Name → ⊥
@@ -198,7 +198,7 @@ head_goes : (ts : List Terminal) (k m n : ℕ) (ps : List PortName) → IsHead t
 head_goes ts _ _ n _ (no_head k) z = ports_absent ts k (λ e. (let h : slice_get ts k ≡ Some Semicolon = z.here in cc))
 head_goes ts _ _ n _ (head k a b m ps o s c) z = follow (step (header ∷ []) o refl) (header_goes ts a b m ps s c)
 
-item_no_end : (ts : List Terminal) (k n : ℕ) (x : Item) → IsItem ts k n x → slice_get ts k ≡ Some EndModule → ⊥
+pub item_no_end : (ts : List Terminal) (k n : ℕ) (x : Item) → IsItem ts k n x → slice_get ts k ≡ Some EndModule → ⊥
 item_no_end ts _ _ _ (ports_item k a b c d n dir r ns i w o s z) e = (let h = i.here in let g : slice_get ts k ≡ Some (Direction dir) = h in cc)
 item_no_end ts _ _ _ (nets_item k a b c n r ns i o s z) e = (let g : slice_get ts k ≡ Some Wire = i.here in cc)
 item_no_end ts _ _ _ (supply_item k a b c n v r ns i o s z) e = (let g : slice_get ts k ≡ Some (Supply v) = i.here in cc)
@@ -220,7 +220,7 @@ source_module : (ts : List Terminal) (k : ℕ) → slice_get ts k ≡ Some Modul
 source_module ts k here = alike ts k (source ∷ []) (module_ ∷ source ∷ []) (λ below e. cc)
     (λ below t e. (let same : t ≡ Module = cc in subst (λ u. next (source ∷ below) u ≡ next (module_ ∷ source ∷ below) u) (sym same) refl))
 
-module_here : (ts : List Terminal) (k n : ℕ) (x : ModuleTree) → IsModule ts k n x → slice_get ts k ≡ Some Module
+pub module_here : (ts : List Terminal) (k n : ℕ) (x : ModuleTree) → IsModule ts k n x → slice_get ts k ≡ Some Module
 module_here ts _ _ _ (grammar.module_ k a b c d e n ps xs i j h z s y) = i.here
 
 -- prediction passes all that is a source text

@@ -25,11 +25,11 @@ use Rattle.verilog_tree.proofs.Passing.{Free, free, After, not_after, expr_start
 use Rattle.verilog_tree.proofs.Unique.{at_one, is_one, same_terminal, number_one, unique_left, unique_expr, unique_commas}
 use Rattle.verilog_tree.proofs.PassingItems.{names_here, net_here, link_here, places_here}
 
-unique_name : (ts : List Terminal) (end : Terminal) (k k' n n' a a' : ℕ) → k ≡ k' → IsName ts k n a → IsName ts k' n' a' → After ts end n → After ts end n' → (n ≡ n') × (a ≡ a')
+pub unique_name : (ts : List Terminal) (end : Terminal) (k k' n n' a a' : ℕ) → k ≡ k' → IsName ts k n a → IsName ts k' n' a' → After ts end n → After ts end n' → (n ≡ n') × (a ≡ a')
 unique_name ts end _ _ _ _ _ _ p (name k n i) (name k' n' i') f f' = (is_one p i i', p)
 
 -- [ range ] before a name
-unique_range : (ts : List Terminal) (k k' n n' : ℕ) (r r' : Option IndexRange) → k ≡ k' → Optional (IsRange ts) k n r → Optional (IsRange ts) k' n' r' →
+pub unique_range : (ts : List Terminal) (k k' n n' : ℕ) (r r' : Option IndexRange) → k ≡ k' → Optional (IsRange ts) k n r → Optional (IsRange ts) k' n' r' →
     slice_get ts n ≡ Some Name → slice_get ts n' ≡ Some Name → (n ≡ n') × (r ≡ r')
 unique_range ts _ _ _ _ _ _ p (absent k) (absent k') f f' = (p, refl)
 unique_range ts _ _ _ _ _ _ p (absent k) (present k' n' _ (grammar.range _ a b c d _ l r o v z w y)) f f' =
@@ -42,7 +42,7 @@ unique_range ts _ _ _ _ _ _ p (present k n _ (grammar.range _ a b c d _ l r o v 
     (is_one (is_one pc w w') y y', ap (λ (x : ℕ). let q : Option IndexRange = Some (record { left = x; right = r }) in q) pl ∙ ap (λ (x : ℕ). let q : Option IndexRange = Some (record { left = l'; right = x }) in q) pr)
 
 -- [ "wire" ] before a range or a name
-Next : List Terminal → ℕ → Type 0
+pub Next : List Terminal → ℕ → Type 0
 Next ts n = (slice_get ts n ≡ Some Name) ⊎ (slice_get ts n ≡ Some OpenBracket)
 
 no_wire_here : (ts : List Terminal) (k k' : ℕ) → k ≡ k' → Next ts k → slice_get ts k' ≡ Some Wire → ⊥
@@ -50,13 +50,13 @@ unfolding Next
 no_wire_here ts k k' p (inl f) e = (let h : Name ≡ Wire = at_one ts k k' Name Wire p f e in cc)
 no_wire_here ts k k' p (inr f) e = (let h : OpenBracket ≡ Wire = at_one ts k k' OpenBracket Wire p f e in cc)
 
-unique_wire : (ts : List Terminal) (k k' n n' : ℕ) → k ≡ k' → IsWire ts k n → IsWire ts k' n' → Next ts n → Next ts n' → n ≡ n'
+pub unique_wire : (ts : List Terminal) (k k' n n' : ℕ) → k ≡ k' → IsWire ts k n → IsWire ts k' n' → Next ts n → Next ts n' → n ≡ n'
 unique_wire ts _ _ _ _ p (no_wire k) (no_wire k') f f' = p
 unique_wire ts _ _ _ _ p (no_wire k) (a_wire k' n' i') f f' = absurd (no_wire_here ts k k' p f i'.here)
 unique_wire ts _ _ _ _ p (a_wire k n i) (no_wire k') f f' = absurd (no_wire_here ts k' k (sym p) f' i.here)
 unique_wire ts _ _ _ _ p (a_wire k n i) (a_wire k' n' i') f f' = is_one p i i'
 
-range_next : (ts : List Terminal) (k n : ℕ) (r : Option IndexRange) → Optional (IsRange ts) k n r → slice_get ts n ≡ Some Name → Next ts k
+pub range_next : (ts : List Terminal) (k n : ℕ) (r : Option IndexRange) → Optional (IsRange ts) k n r → slice_get ts n ≡ Some Name → Next ts k
 unfolding Next
 range_next ts _ _ _ (absent k) f = inl f
 range_next ts _ _ _ (present k n _ (grammar.range _ a b c d _ l r o v z w y)) f = inr o.here
@@ -75,13 +75,13 @@ unique_value ts _ _ _ _ _ _ p (present k n _ (grammar.value _ a _ e i s)) (prese
     let q = unique_expr ts a a' n n' e e' (is_one p i i') s s' (item_free ts Semicolon n (λ x. cc) f) (item_free ts Semicolon n' (λ x. cc) f') in
     (q.0, ap (λ x. Some x) q.1)
 
-unique_net : (ts : List Terminal) (k k' n n' : ℕ) (x x' : NetPart) → k ≡ k' → IsNet ts k n x → IsNet ts k' n' x' →
+pub unique_net : (ts : List Terminal) (k k' n n' : ℕ) (x x' : NetPart) → k ≡ k' → IsNet ts k n x → IsNet ts k' n' x' →
     After ts Semicolon n → After ts Semicolon n' → (n ≡ n') × (x ≡ x')
 unique_net ts _ _ _ _ _ _ p (grammar.net k a n v i s) (grammar.net k' a' n' v' i' s') f f' =
     let q = unique_value ts a a' n n' v v' (is_one p i i') s s' f f' in
     (q.0, ap (λ (j : ℕ). let t : NetPart = record { name = j; value = v } in t) p ∙ ap (λ (u : Option Expr). let t : NetPart = record { name = k'; value = u } in t) q.1)
 
-unique_pair : (ts : List Terminal) (k k' n n' : ℕ) (x x' : AssignPair) → k ≡ k' → IsPair ts k n x → IsPair ts k' n' x' →
+pub unique_pair : (ts : List Terminal) (k k' n n' : ℕ) (x x' : AssignPair) → k ≡ k' → IsPair ts k n x → IsPair ts k' n' x' →
     After ts Semicolon n → After ts Semicolon n' → (n ≡ n') × (x ≡ x')
 unique_pair ts _ _ _ _ _ _ p (grammar.pair k a b n l r s i z) (grammar.pair k' a' b' n' l' r' s' i' z') f f' =
     let q = unique_left ts k k' a a' l l' p s s' (free ts a b Equals i (λ x. cc)) (free ts a' b' Equals i' (λ x. cc)) in
@@ -102,7 +102,7 @@ unique_label ts _ _ _ _ m m' _ _ p (present k n _ (name _ _ j)) (absent k') o o'
     let h : Name ≡ OpenParen = same_terminal p j o' in absurd (let no : ⊥ = cc in no)
 unique_label ts _ _ _ _ m m' _ _ p (present k n _ (name _ _ j)) (present k' n' _ (name _ _ j')) o o' = (is_one p j j', ap (λ x. Some x) p)
 
-unique_prim : (ts : List Terminal) (k k' n n' : ℕ) (x x' : Prim) → k ≡ k' → IsPrim ts k n x → IsPrim ts k' n' x' →
+pub unique_prim : (ts : List Terminal) (k k' n n' : ℕ) (x x' : Prim) → k ≡ k' → IsPrim ts k n x → IsPrim ts k' n' x' →
     After ts Semicolon n → After ts Semicolon n' → (n ≡ n') × (x ≡ x')
 unique_prim ts _ _ _ _ _ _ p (grammar.prim k a b c n l es s i (terminals _ _ _ t two) z) (grammar.prim k' a' b' c' n' l' es' s' i' (terminals _ _ _ t' two') z') f f' =
     let q = unique_label ts k k' a a' b b' l l' p s s' i i' in

@@ -1,7 +1,7 @@
 //! The tree of a list of tokens, or the place where no text has them.
 
 ghost use Rattle.std.specs.Prelude.{◌≡◌, ◌<◌, length, map};
-ghost use Rattle.verilog_tree.specs.Laws.{TextsAreRead};
+ghost use Rattle.verilog_tree.specs.Laws.{HasOneTree, TextsAreRead, WordsStand};
 ghost use Rattle.verilog_tree.specs.Parsing.{FaultIs, readable};
 ghost use Rattle.verilog_tree.specs.Source.{Explains, IsFirstDeep};
 ghost use Rattle.verilog_tree.specs.Terminal.{terminal_at};
@@ -99,5 +99,17 @@ fn fault_at(reader: &Reader, token: u32, deep: Option<u32>) -> ParseFault
 /// A law: the tokens of a text of the grammar, with at most 64 braces open at once, have no fault.
 pub fn texts_are_read()
     ensures { TextsAreRead }
+{
+}
+
+/// A law: a list of tokens has at most one tree.
+pub fn has_one_tree()
+    ensures { HasOneTree }
+{
+}
+
+/// A law: the places of the reserved words are those of the lexer's list.
+pub fn words_stand()
+    ensures { WordsStand }
 {
 }
