@@ -76,7 +76,7 @@ terminals_go : (ts : List Terminal) (k n : ℕ) (es : List Expr) → Commas ts (
 terminals_go ts _ _ _ (first_item k n e s) two f = absurd (omega arith)
 terminals_go ts _ _ _ (more_items k a b n e es s i c) two f =
     follow (passes (passes stays (terminal_goes ts k a e s (after_comma CloseParen i))) (is_goes i))
-        (commas_go ts expr CloseParen (IsExpr ts) (terminal_goes ts) b n es c f)
+    (commas_go ts expr CloseParen (IsExpr ts) (terminal_goes ts) b n es c f)
 
 label_goes : (ts : List Terminal) (k n m : ℕ) (l : Option ℕ) → Optional (IsName ts) k n l → Is ts n OpenParen m → Leads ts (label ∷ []) k [] n
 label_goes ts _ _ m _ (absent k) i = label_absent ts k (λ e. (let h : slice_get ts k ≡ Some OpenParen = i.here in cc))

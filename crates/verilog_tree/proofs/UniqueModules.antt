@@ -93,10 +93,12 @@ unique_one : (ts : List Terminal) (k k' n n' : ℕ) (x x' : PortName) → k ≡ 
 unique_one ts _ _ _ _ _ _ p (grammar.one k a b c n d r i w o z) (grammar.one k' a' b' c' n' d' r' i' w' o' z') =
     let pd = direction_one d d' (same_terminal p i i') in
     let pb = unique_wire ts a a' b b' (is_one p i i') w w' (range_next ts b c r o z.here) (range_next ts b' c' r' o' z'.here) in
-    let q = unique_range ts b b' c c' r r' pb o o' z.here z'.here in
-    (is_one q.0 z z', ap (λ (u : ℕ). let x : PortName = record { name = u; dir = Some d; range = r } in x) q.0
-        ∙ ap (λ (u : Dir). let x : PortName = record { name = c'; dir = Some u; range = r } in x) pd
-        ∙ ap (λ (u : Option IndexRange). let x : PortName = record { name = c'; dir = Some d'; range = u } in x) q.1)
+    let q = unique_range ts b b' c c' r r' pb o o' z.here z'.here in (
+      is_one q.0 z z',
+      ap (λ (u : ℕ). let x : PortName = record { name = u; dir = Some d; range = r } in x) q.0
+          ∙ ap (λ (u : Dir). let x : PortName = record { name = c'; dir = Some u; range = r } in x) pd
+          ∙ ap (λ (u : Option IndexRange). let x : PortName = record { name = c'; dir = Some d'; range = u } in x) q.1,
+    )
 
 -- ports from the left, each by the port before it
 data PortsAfter (ts : List Terminal) : PortName → ℕ → ℕ → List PortName → Type 0 where
@@ -130,12 +132,12 @@ after_push_name : (ts : List Terminal) (q l : PortName) (k a b n : ℕ) (ps : Li
 unfolding Last
 after_push_name ts _ l _ _ b n _ (ports_end q k) e i o =
     subst (λ (x : PortName). PortsAfter ts q k n (record { name = b; dir = x.dir; range = x.range } ∷ [])) (sym e)
-        (then_name q k b n n [] i o (ports_end (record { name = b; dir = q.dir; range = q.range }) n))
+    (then_name q k b n n [] i o (ports_end (record { name = b; dir = q.dir; range = q.range }) n))
 after_push_name ts _ l _ _ b n _ (then_one q x k c d m xs j y rest) e i o =
     then_one q x k c d n (xs ++ record { name = b; dir = l.dir; range = l.range } ∷ []) j y (after_push_name ts x l d m b n xs rest e i o)
 after_push_name ts _ l _ _ b n _ (then_name q k c d m xs j y rest) e i o =
     then_name q k c d n (xs ++ record { name = b; dir = l.dir; range = l.range } ∷ []) j y
-        (after_push_name ts (record { name = c; dir = q.dir; range = q.range }) l d m b n xs rest e i o)
+    (after_push_name ts (record { name = c; dir = q.dir; range = q.range }) l d m b n xs rest e i o)
 
 last_push : (q p : PortName) (ps : List PortName) → Last q (ps ++ p ∷ []) p
 unfolding Last
@@ -146,20 +148,36 @@ ports_from : (ts : List Terminal) (k n : ℕ) (l : PortName) (ps : List PortName
 unfolding Last
 ports_from ts _ _ _ _ (first_port k n p s) = (record { first = p; rest = []; place = n; is = refl; one = s; later = ports_end p n }, refl)
 ports_from ts _ _ _ _ (next_one k a b n p q ps s i o) =
-    let f = ports_from ts k a q ps s in
-    (record { first = f.0.first; rest = f.0.rest ++ p ∷ []; place = f.0.place; is = ap (λ l. l ++ p ∷ []) f.0.is; one = f.0.one;
-        later = after_push_one ts f.0.first f.0.place a b n p f.0.rest f.0.later i o }, last_push f.0.first p f.0.rest)
+    let f = ports_from ts k a q ps s in (
+      record {
+        first = f.0.first;
+        rest = f.0.rest ++ p ∷ [];
+        place = f.0.place;
+        is = ap (λ l. l ++ p ∷ []) f.0.is;
+        one = f.0.one;
+        later = after_push_one ts f.0.first f.0.place a b n p f.0.rest f.0.later i o;
+      },
+      last_push f.0.first p f.0.rest,
+    )
 ports_from ts _ _ _ _ (next_name k a b n q ps s i o) =
     let f = ports_from ts k a q ps s in
-    let p : PortName = record { name = b; dir = q.dir; range = q.range } in
-    (record { first = f.0.first; rest = f.0.rest ++ p ∷ []; place = f.0.place; is = ap (λ l. l ++ p ∷ []) f.0.is; one = f.0.one;
-        later = after_push_name ts f.0.first q f.0.place a b n f.0.rest f.0.later f.1 i o }, last_push f.0.first p f.0.rest)
+    let p : PortName = record { name = b; dir = q.dir; range = q.range } in (
+      record {
+        first = f.0.first;
+        rest = f.0.rest ++ p ∷ [];
+        place = f.0.place;
+        is = ap (λ l. l ++ p ∷ []) f.0.is;
+        one = f.0.one;
+        later = after_push_name ts f.0.first q f.0.place a b n f.0.rest f.0.later f.1 i o;
+      },
+      last_push f.0.first p f.0.rest,
+    )
 
 port_bare : (a a' : ℕ) (q q' : PortName) → a ≡ a' → q ≡ q' →
     ◌≡◌ {A = PortName} (record { name = a; dir = q.dir; range = q.range }) (record { name = a'; dir = q'.dir; range = q'.range })
 port_bare a a' q q' p e =
     ap (λ (u : ℕ). let x : PortName = record { name = u; dir = q.dir; range = q.range } in x) p
-        ∙ ap (λ (u : PortName). let x : PortName = record { name = a'; dir = u.dir; range = u.range } in x) e
+    ∙ ap (λ (u : PortName). let x : PortName = record { name = a'; dir = u.dir; range = u.range } in x) e
 
 unique_after : (ts : List Terminal) (q q' : PortName) (k k' n n' : ℕ) (ps ps' : List PortName) → q ≡ q' → k ≡ k' → PortsAfter ts q k n ps → PortsAfter ts q' k' n' ps' →
     slice_get ts n ≡ Some CloseParen → slice_get ts n' ≡ Some CloseParen → (n ≡ n') × (ps ≡ ps')
@@ -251,16 +269,18 @@ unique_module ts _ _ _ _ _ _ p (grammar.module_ k a b c d e n ps xs i j h z s y)
     let pa = is_one p i i' in
     let q = unique_head ts b b' c c' d d' ps ps' (is_one pa j j') h h' z z' in
     let t = unique_many (IsItem ts) (λ m. slice_get ts m ≡ Some EndModule) (λ m m' l x e f g. item_no_end ts m' l x g (ap (slice_get ts) (sym e) ∙ f)) (unique_item ts)
-        d d' e e' xs xs' (is_one q.0 z z') s s' y.here y'.here in
-    (is_one t.0 y y', ap (λ (u : ℕ). let x : ModuleTree = record { name = u; ports = ps; items = xs } in x) pa
-        ∙ ap (λ (u : List PortName). let x : ModuleTree = record { name = a'; ports = u; items = xs } in x) q.1
-        ∙ ap (λ (u : List Item). let x : ModuleTree = record { name = a'; ports = ps'; items = u } in x) t.1)
+    d d' e e' xs xs' (is_one q.0 z z') s s' y.here y'.here in (
+      is_one t.0 y y',
+      ap (λ (u : ℕ). let x : ModuleTree = record { name = u; ports = ps; items = xs } in x) pa
+          ∙ ap (λ (u : List PortName). let x : ModuleTree = record { name = a'; ports = u; items = xs } in x) q.1
+          ∙ ap (λ (u : List Item). let x : ModuleTree = record { name = a'; ports = ps'; items = u } in x) t.1,
+    )
 
 -- a text has one tree
 pub unique_source : (ts : List Terminal) (a b : Source) → IsSource ts a → IsSource ts b → a ≡ b
 unique_source ts a b s t =
     let over : (k k' n : ℕ) (x : ModuleTree) → k ≡ k' → k ≡ length ts → IsModule ts k' n x → ⊥ =
-        λ k k' n x p e m. (let h = module_here ts k' n x m in
-            let f : slice_get ts k' ≡ None = slice_get_past ts k' (omega arith) in cc) in
+    λ k k' n x p e m. (let h = module_here ts k' n x m in
+    let f : slice_get ts k' ≡ None = slice_get_past ts k' (omega arith) in cc) in
     let q = unique_many (IsModule ts) (λ m. m ≡ length ts) over (unique_module ts) 0 0 (length ts) (length ts) a.modules b.modules refl s t refl refl in
     ap (λ (u : List ModuleTree). let x : Source = record { modules = u } in x) q.1

@@ -99,17 +99,14 @@ fn fault_at(reader: &Reader, token: u32, deep: Option<u32>) -> ParseFault
 /// A law: the tokens of a text of the grammar, with at most 64 braces open at once, have no fault.
 pub fn texts_are_read()
     ensures { TextsAreRead }
-{
-}
+{}
 
 /// A law: a list of tokens has at most one tree.
 pub fn has_one_tree()
     ensures { HasOneTree }
-{
-}
+{}
 
 /// A law: the places of the reserved words are those of the lexer's list.
 pub fn words_stand()
     ensures { WordsStand }
-{
-}
+{}

@@ -31,9 +31,21 @@ fn fault_of(tokens: &Tokens, source: &[u8], fault: ParseFault) -> Option<(Fault,
 /// Texts of which a second reader of the grammar told the fault and its byte.
 static FAULTS: [(&[u8], Fault, usize); 53] = [
     (b"module t; reg r; endmodule", Fault::Unsupported, 10),
-    (b"module t;assign y={{{{{{{{{{{{{{{{{{{{{{{{{{{{{{{{{{{{{{{{{{{{{{{{{{{{{{{{{{{{{{{{{", Fault::TooDeep, 82),
-    (b"module t;assign y={1{{1{{1{{1{{1{{1{{1{{1{{1{{1{{1{{1{{1{{1{{1{{1{{1{{1{{1{{1{{1{{1{{1{{1{{1{{1{{1{{1{{1{{1{{1{{1{{", Fault::TooDeep, 114),
-    (b"module t;assign y={{{{{{{{{{{{{{{{{{{{{{{{{{{{{{{{{{{{{{{{{{{{{{{{{{{{{{{{{{{{{{{{a{", Fault::Expected, 83),
+    (
+        b"module t;assign y={{{{{{{{{{{{{{{{{{{{{{{{{{{{{{{{{{{{{{{{{{{{{{{{{{{{{{{{{{{{{{{{{",
+        Fault::TooDeep,
+        82,
+    ),
+    (
+        b"module t;assign y={1{{1{{1{{1{{1{{1{{1{{1{{1{{1{{1{{1{{1{{1{{1{{1{{1{{1{{1{{1{{1{{1{{1{{1{{1{{1{{1{{1{{1{{1{{1{{1{{",
+        Fault::TooDeep,
+        114,
+    ),
+    (
+        b"module t;assign y={{{{{{{{{{{{{{{{{{{{{{{{{{{{{{{{{{{{{{{{{{{{{{{{{{{{{{{{{{{{{{{{a{",
+        Fault::Expected,
+        83,
+    ),
     (
         b"module t(a,y);input a;output y;buf(y,a);endmodule;",
         Fault::Expected,
