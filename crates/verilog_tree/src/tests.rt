@@ -1,7 +1,6 @@
 //! Texts with their faults.
 
-use crate::{ParseFault, Source, parse};
-use std::alloc::Global;
+use crate::{ParseFault, has_one_tree, parse, texts_are_read, words_stand};
 use std::test::Fail;
 use verilog_lex::{Tokens, tokens};
 
@@ -30,7 +29,23 @@ fn fault_of(tokens: &Tokens, source: &[u8], fault: ParseFault) -> Option<(Fault,
 }
 
 /// Texts of which a second reader of the grammar told the fault and its byte.
-static FAULTS: [(&[u8], Fault, usize); 49] = [
+static FAULTS: [(&[u8], Fault, usize); 53] = [
+    (b"module t; reg r; endmodule", Fault::Unsupported, 10),
+    (
+        b"module t;assign y={{{{{{{{{{{{{{{{{{{{{{{{{{{{{{{{{{{{{{{{{{{{{{{{{{{{{{{{{{{{{{{{{",
+        Fault::TooDeep,
+        82,
+    ),
+    (
+        b"module t;assign y={1{{1{{1{{1{{1{{1{{1{{1{{1{{1{{1{{1{{1{{1{{1{{1{{1{{1{{1{{1{{1{{1{{1{{1{{1{{1{{1{{1{{1{{1{{1{{1{{",
+        Fault::TooDeep,
+        114,
+    ),
+    (
+        b"module t;assign y={{{{{{{{{{{{{{{{{{{{{{{{{{{{{{{{{{{{{{{{{{{{{{{{{{{{{{{{{{{{{{{{a{",
+        Fault::Expected,
+        83,
+    ),
     (
         b"module t(a,y);input a;output y;buf(y,a);endmodule;",
         Fault::Expected,
@@ -224,6 +239,9 @@ static FAULTS: [(&[u8], Fault, usize); 49] = [
 
 #[test]
 fn names_each_fault(rt: HostRuntime) -> Result<(), Fail> {
+    has_one_tree();
+    texts_are_read();
+    words_stand();
     for (source, kind, byte) in &FAULTS {
         prove!(source.len() < 400);
         let tokens = tokens(rt.alloc(), source)?;
