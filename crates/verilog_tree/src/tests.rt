@@ -243,7 +243,7 @@ fn names_each_fault(rt: HostRuntime) -> Result<(), Fail> {
     texts_are_read();
     words_stand();
     for (source, kind, byte) in &FAULTS {
-        prove!(source.len() < 400);
+        assert!(rt; source.len() < 400);
         let tokens = tokens(rt.alloc(), source)?;
         let fault = parse(rt.alloc(), &tokens)
             .err()
