@@ -144,14 +144,14 @@ module _ (p : Parts) (inside : NodeId → Bool) (v w : Valuation) (event : List 
       split p v w (Net l.gate.net) (Net l.feed ∷ Net l.q ∷ reset_subjects l.clear l.preset)
       (λ ms bs. MarkHolds p v w (Net (record { place = n })) (latch_mark ms) (latch_function l bs))
       (λ m ms b bs t rest.
-        split p v w (Net l.feed) (Net l.q ∷ reset_subjects l.clear l.preset)
-        (λ ms bs. MarkHolds p v w (Net (record { place = n })) (latch_mark (m ∷ ms)) (latch_function l (b ∷ bs)))
-        (λ m2 ms2 b2 bs2 t2 rest2.
-          split p v w (Net l.q) (reset_subjects l.clear l.preset)
-          (λ ms bs. MarkHolds p v w (Net (record { place = n })) (latch_mark (m ∷ m2 ∷ ms)) (latch_function l (b ∷ b2 ∷ bs)))
-          (λ m3 ms3 b3 bs3 t3 rest3. latched_with n l at old new m b t m2 b2 t2 m3 b3 t3 ms3 bs3 rest3)
-          ms2 bs2 rest2)
-        ms bs rest)
+      split p v w (Net l.feed) (Net l.q ∷ reset_subjects l.clear l.preset)
+      (λ ms bs. MarkHolds p v w (Net (record { place = n })) (latch_mark (m ∷ ms)) (latch_function l (b ∷ bs)))
+      (λ m2 ms2 b2 bs2 t2 rest2.
+      split p v w (Net l.q) (reset_subjects l.clear l.preset)
+      (λ ms bs. MarkHolds p v w (Net (record { place = n })) (latch_mark (m ∷ m2 ∷ ms)) (latch_function l (b ∷ b2 ∷ bs)))
+      (λ m3 ms3 b3 bs3 t3 rest3. latched_with n l at old new m b t m2 b2 t2 m3 b3 t3 ms3 bs3 rest3)
+      ms2 bs2 rest2)
+      ms bs rest)
       ms bs h
 
   -- what a gate is, by its origin: it has the operation, and its inputs are true of the subjects
@@ -205,15 +205,15 @@ module _ (p : Parts) (inside : NodeId → Bool) (v w : Valuation) (event : List 
       subst (λ (b : Bool). MarkHolds p v w (Up n) (edge_mark ms) b) (sym (computes p v w word rise_function (Net n ∷ Net n ∷ []) ms bs e h))
       (split p v w (Net n) (Net n ∷ []) (λ ms bs. MarkHolds p v w (Up n) (edge_mark ms) (rise_function bs))
       (λ m ms b bs t rest.
-        split p v w (Net n) [] (λ ms bs. MarkHolds p v w (Up n) (edge_mark (m ∷ ms)) (rise_function (b ∷ bs)))
-        (λ m2 ms2 b2 bs2 t2 rest2.
-          ended p v w (λ ms bs. MarkHolds p v w (Up n) (edge_mark (m ∷ m2 ∷ ms)) (rise_function (b ∷ b2 ∷ bs)))
-          (record {
-            before = λ a. tt;
-            after = λ a. ap (λ (c : Bool). not c && b2) (t.before (left _ _ a)) ∙ ap (λ (c : Bool). not (v.net n.place) && c) (t2.after (right _ _ a));
-          })
-          ms2 bs2 rest2)
-        ms bs rest)
+      split p v w (Net n) [] (λ ms bs. MarkHolds p v w (Up n) (edge_mark (m ∷ ms)) (rise_function (b ∷ bs)))
+      (λ m2 ms2 b2 bs2 t2 rest2.
+      ended p v w (λ ms bs. MarkHolds p v w (Up n) (edge_mark (m ∷ m2 ∷ ms)) (rise_function (b ∷ b2 ∷ bs)))
+      (record {
+        before = λ a. tt;
+        after = λ a. ap (λ (c : Bool). not c && b2) (t.before (left _ _ a)) ∙ ap (λ (c : Bool). not (v.net n.place) && c) (t2.after (right _ _ a));
+      })
+      ms2 bs2 rest2)
+      ms bs rest)
       ms bs h)
 
   falls : (n : NetId) (word : Op) (ms : List Mark) (bs : List Bool) → word ≡ table_of 2 fall_function → AreTrue p v w (Net n ∷ Net n ∷ []) ms bs
@@ -222,15 +222,15 @@ module _ (p : Parts) (inside : NodeId → Bool) (v w : Valuation) (event : List 
       subst (λ (b : Bool). MarkHolds p v w (Down n) (edge_mark ms) b) (sym (computes p v w word fall_function (Net n ∷ Net n ∷ []) ms bs e h))
       (split p v w (Net n) (Net n ∷ []) (λ ms bs. MarkHolds p v w (Down n) (edge_mark ms) (fall_function bs))
       (λ m ms b bs t rest.
-        split p v w (Net n) [] (λ ms bs. MarkHolds p v w (Down n) (edge_mark (m ∷ ms)) (fall_function (b ∷ bs)))
-        (λ m2 ms2 b2 bs2 t2 rest2.
-          ended p v w (λ ms bs. MarkHolds p v w (Down n) (edge_mark (m ∷ m2 ∷ ms)) (fall_function (b ∷ b2 ∷ bs)))
-          (record {
-            before = λ a. tt;
-            after = λ a. ap (λ (c : Bool). c && not b2) (t.before (left _ _ a)) ∙ ap (λ (c : Bool). v.net n.place && not c) (t2.after (right _ _ a));
-          })
-          ms2 bs2 rest2)
-        ms bs rest)
+      split p v w (Net n) [] (λ ms bs. MarkHolds p v w (Down n) (edge_mark (m ∷ ms)) (fall_function (b ∷ bs)))
+      (λ m2 ms2 b2 bs2 t2 rest2.
+      ended p v w (λ ms bs. MarkHolds p v w (Down n) (edge_mark (m ∷ m2 ∷ ms)) (fall_function (b ∷ b2 ∷ bs)))
+      (record {
+        before = λ a. tt;
+        after = λ a. ap (λ (c : Bool). c && not b2) (t.before (left _ _ a)) ∙ ap (λ (c : Bool). v.net n.place && not c) (t2.after (right _ _ a));
+      })
+      ms2 bs2 rest2)
+      ms bs rest)
       ms bs h)
 
   of_edge : (n : NetId) (what : Subject) (function : List Bool → Bool) (word : Op) (ms : List Mark) (bs : List Bool)
@@ -251,9 +251,9 @@ module _ (p : Parts) (inside : NodeId → Bool) (v w : Valuation) (event : List 
       computes p v w word (take_function f) (take_origin f).inputs ms bs h.0 h.1
       ∙ split p v w (edge_of f.clock f.rise) (reset_subjects f.clear f.preset) (λ ms bs. all_after ms ≡ true → take_function f bs ≡ flop_takes v w f)
       (λ m ms b bs t rest a.
-        ap (λ (c : Bool). take_function f (c ∷ bs)) (t.after (left _ _ a) ∙ edge_value f.clock f.rise)
-        ∙ ap (λ (cs : List Bool). take_function f (has_edge v w f.clock f.rise ∷ cs)) (after_values p v w (λ (level : Level). level.net) (resets f.clear f.preset) ms bs rest (right _ _ a))
-        ∙ takes_is w (has_edge v w f.clock f.rise) f.clear f.preset)
+      ap (λ (c : Bool). take_function f (c ∷ bs)) (t.after (left _ _ a) ∙ edge_value f.clock f.rise)
+      ∙ ap (λ (cs : List Bool). take_function f (has_edge v w f.clock f.rise ∷ cs)) (after_values p v w (λ (level : Level). level.net) (resets f.clear f.preset) ms bs rest (right _ _ a))
+      ∙ takes_is w (has_edge v w f.clock f.rise) f.clear f.preset)
       ms bs h.1 a
 
   of_take : (e : ElemId) (word : Op) (ms : List Mark) (bs : List Bool) (o : Option Flop) → flop_at p e.place ≡ o
@@ -269,9 +269,9 @@ module _ (p : Parts) (inside : NodeId → Bool) (v w : Valuation) (event : List 
       computes p v w word (next_function f) (next_origin f).inputs ms bs h.0 h.1
       ∙ split p v w (Net f.feed) (reset_subjects f.clear f.preset) (λ ms bs. (next_mark ms).after ≡ true → next_function f bs ≡ flop_next v w f)
       (λ m ms b bs t rest a.
-        ap (λ (c : Bool). next_function f (c ∷ bs)) (t.before (left _ _ a))
-        ∙ ap (λ (cs : List Bool). next_function f (v.net f.feed.place ∷ cs)) (after_values p v w (λ (level : Level). level.net) (resets f.clear f.preset) ms bs rest (right _ _ a))
-        ∙ ap (λ (o : Option Bool). unwrap_or o (v.net f.feed.place)) (forced_is w f.clear f.preset))
+      ap (λ (c : Bool). next_function f (c ∷ bs)) (t.before (left _ _ a))
+      ∙ ap (λ (cs : List Bool). next_function f (v.net f.feed.place ∷ cs)) (after_values p v w (λ (level : Level). level.net) (resets f.clear f.preset) ms bs rest (right _ _ a))
+      ∙ ap (λ (o : Option Bool). unwrap_or o (v.net f.feed.place)) (forced_is w f.clear f.preset))
       ms bs h.1 a
 
   next_before : (ms : List Mark) → (next_mark ms).before ≡ false
@@ -291,14 +291,14 @@ module _ (p : Parts) (inside : NodeId → Bool) (v w : Valuation) (event : List 
       computes p v w word (write_take_function port) (write_take_origin port).inputs ms bs h.0 h.1
       ∙ split p v w (edge_of port.clock port.rise) (Net port.enable.net ∷ []) (λ ms bs. (write_take_mark ms).after ≡ true → write_take_function port bs ≡ stores v w port)
       (λ m ms b bs t rest.
-        split p v w (Net port.enable.net) [] (λ ms bs. (write_take_mark (m ∷ ms)).after ≡ true → write_take_function port (b ∷ bs) ≡ stores v w port)
-        (λ m2 ms2 b2 bs2 t2 rest2.
-          ended p v w (λ ms bs. (write_take_mark (m ∷ m2 ∷ ms)).after ≡ true → write_take_function port (b ∷ b2 ∷ bs) ≡ stores v w port)
-          (λ a.
-            ap (λ (c : Bool). c && acts_at port.enable b2) (t.after (left _ _ a) ∙ edge_value port.clock port.rise)
-            ∙ ap (λ (c : Bool). has_edge v w port.clock port.rise && acts_at port.enable c) (t2.before (right _ _ a)))
-          ms2 bs2 rest2)
-        ms bs rest)
+      split p v w (Net port.enable.net) [] (λ ms bs. (write_take_mark (m ∷ ms)).after ≡ true → write_take_function port (b ∷ bs) ≡ stores v w port)
+      (λ m2 ms2 b2 bs2 t2 rest2.
+      ended p v w (λ ms bs. (write_take_mark (m ∷ m2 ∷ ms)).after ≡ true → write_take_function port (b ∷ b2 ∷ bs) ≡ stores v w port)
+      (λ a.
+      ap (λ (c : Bool). c && acts_at port.enable b2) (t.after (left _ _ a) ∙ edge_value port.clock port.rise)
+      ∙ ap (λ (c : Bool). has_edge v w port.clock port.rise && acts_at port.enable c) (t2.before (right _ _ a)))
+      ms2 bs2 rest2)
+      ms bs rest)
       ms bs h.1 a
 
   of_write_take : (m : MemId) (k : ℕ) (word : Op) (ms : List Mark) (bs : List Bool) (o : Option WritePort) → design_write p m.place k ≡ o

@@ -96,7 +96,7 @@ module _ (p : Parts) (v w : Valuation) where
   before_values net (x ∷ xs) ms bs h =
       split (Net (net x)) (map (λ x. Net (net x)) xs) (λ ms bs. all_before ms ≡ true → bs ≡ v.net (net x).place ∷ map (λ x. v.net (net x).place) xs)
       (λ m ms b bs t rest a.
-        ap (λ (c : Bool). c ∷ bs) (t.before (left _ _ a)) ∙ ap (λ cs. v.net (net x).place ∷ cs) (before_values net xs ms bs rest (right _ _ a)))
+      ap (λ (c : Bool). c ∷ bs) (t.before (left _ _ a)) ∙ ap (λ cs. v.net (net x).place ∷ cs) (before_values net xs ms bs rest (right _ _ a)))
       ms bs h
 
   pub after_values : {X : Type 0} (net : X → NetId) (xs : List X) (ms : List Mark) (bs : List Bool)
@@ -105,5 +105,5 @@ module _ (p : Parts) (v w : Valuation) where
   after_values net (x ∷ xs) ms bs h =
       split (Net (net x)) (map (λ x. Net (net x)) xs) (λ ms bs. all_after ms ≡ true → bs ≡ w.net (net x).place ∷ map (λ x. w.net (net x).place) xs)
       (λ m ms b bs t rest a.
-        ap (λ (c : Bool). c ∷ bs) (t.after (left _ _ a)) ∙ ap (λ cs. w.net (net x).place ∷ cs) (after_values net xs ms bs rest (right _ _ a)))
+      ap (λ (c : Bool). c ∷ bs) (t.after (left _ _ a)) ∙ ap (λ cs. w.net (net x).place ∷ cs) (after_values net xs ms bs rest (right _ _ a)))
       ms bs h

@@ -11,12 +11,12 @@ module _ {A : Type 0} {B : Type 0} (chip : Chip) (source : ℕ → A) (other : �
   by_gate : (n : ℕ)
       → R n (source n) (other n)
       → ((k : ℕ) (gate : EmuGate) → slice_get chip.gates k ≡ Some gate → (f : ℕ → A) (g : ℕ → B) → ((i : ℕ) → R i (f i) (g i))
-        → R gate.output.place (combine gate (map (λ i. f i.place) gate.inputs)) (join gate (map (λ i. g i.place) gate.inputs)))
+      → R gate.output.place (combine gate (map (λ i. f i.place) gate.inputs)) (join gate (map (λ i. g i.place) gate.inputs)))
       → (f : ℕ → A) (g : ℕ → B) → ((i : ℕ) → R i (f i) (g i))
       → (o : Option EmuGate) → gate_of chip n ≡ o
       → R n
-        (option_map_or (λ gate. combine gate (map (λ i. f i.place) gate.inputs)) o (source n))
-        (option_map_or (λ gate. join gate (map (λ i. g i.place) gate.inputs)) o (other n))
+      (option_map_or (λ gate. combine gate (map (λ i. f i.place) gate.inputs)) o (source n))
+      (option_map_or (λ gate. join gate (map (λ i. g i.place) gate.inputs)) o (other n))
   by_gate n held made f g both None e = held
   by_gate n held made f g both (Some gate) e =
       let at : (k : ℕ) × (slice_get chip.gates k ≡ Some gate) × (is_chip_net n gate.output ≡ true) = found (λ (gate : EmuGate). is_chip_net n gate.output) chip.gates gate e in
@@ -27,7 +27,7 @@ module _ {A : Type 0} {B : Type 0} (chip : Chip) (source : ℕ → A) (other : �
 
   pub in_parallel : ((n : ℕ) → R n (source n) (other n))
       → ((k : ℕ) (gate : EmuGate) → slice_get chip.gates k ≡ Some gate → (f : ℕ → A) (g : ℕ → B) → ((i : ℕ) → R i (f i) (g i))
-        → R gate.output.place (combine gate (map (λ i. f i.place) gate.inputs)) (join gate (map (λ i. g i.place) gate.inputs)))
+      → R gate.output.place (combine gate (map (λ i. f i.place) gate.inputs)) (join gate (map (λ i. g i.place) gate.inputs)))
       → (room n : ℕ) → R n (on_net chip source combine room n) (on_net chip other join room n)
   in_parallel held made zero n = held n
   in_parallel held made (suc room) n =

@@ -68,8 +68,8 @@ module _ (p : Parts) (inside : NodeId → Bool) (v w : Valuation) (event : List 
 
   pub nets_true : (r : Results) (s : MarkState) (x : State) → GatesFit p r → SubjectsStand p r → SourcesTrue p r v w s x
       → (c n : ℕ) → IsTrueOf p v w (subject r c n)
-        (net_mark p r inside s c n)
-        (net_value r.net x c n)
+      (net_mark p r inside s c n)
+      (net_value r.net x c n)
   nets_true r s x fit stand held c n =
       in_parallel (chip_at r.net c)
       (λ (k : ℕ). widened inside (subject r c k) (s.on c k))
@@ -79,8 +79,8 @@ module _ (p : Parts) (inside : NodeId → Bool) (v w : Valuation) (event : List 
       (λ (k : ℕ) (m : Mark) (b : Bool). IsTrueOf p v w (subject r c k) m b)
       (λ k. widened_true (subject r c k) (s.on c k) (x.held c k) (stand c k) (held c k))
       (λ k gate at f g both.
-        widened_true (subject r c gate.output.place) _ _ (stand c gate.output.place)
-        (by_fit r c gate f g both (subject r c gate.output.place) (fit c k gate at)))
+      widened_true (subject r c gate.output.place) _ _ (stand c gate.output.place)
+      (by_fit r c gate f g both (subject r c gate.output.place) (fit c k gate at)))
       (length (chip_at r.net c).gates)
       n
 
