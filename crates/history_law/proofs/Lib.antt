@@ -1,3 +1,5 @@
 pub mod Lists
 pub mod Naming
 pub mod Following
+pub mod Ranges
+pub mod Equations

@@ -147,7 +147,7 @@ input_bit_is_input p n d h =
 
 -- ## Read bits
 
-same_number : (a b : ℕ) → a ≡ b → (a == b) ≡ true
+pub same_number : (a b : ℕ) → a ≡ b → (a == b) ≡ true
 same_number a b e = grind (arith, nat_tests)
 
 pub number_same : (a b : ℕ) → (a == b) ≡ true → a ≡ b
