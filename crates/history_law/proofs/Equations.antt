@@ -122,13 +122,13 @@ module _ (p : Parts) (u w : Valuation) where
     port_same m memory at b None h = refl
     port_same m memory at b (Some port) h =
         let address : values u port.address ≡ values w port.address =
-            values_same port.address (each_left (Same p u w) (map Net port.address) (write_nodes m memory) h) in
+        values_same port.address (each_left (Same p u w) (map Net port.address) (write_nodes m memory) h) in
         let nodes : Each (Same p u w) (write_nodes m memory) =
-            each_right (Same p u w) (map Net port.address) (write_nodes m memory) h in
+        each_right (Same p u w) (map Net port.address) (write_nodes m memory) h in
         ap (λ bs. bit_of (s.word u m.place (number bs)) b) address
         ∙ ap (λ x. bit_of x b)
-          (local.word u w m.place (shown_number w port.address) memory at
-          (λ j q in_port. each_write (Same p u w) m 0 memory.writes j j q nodes in_port (omega arith) memory q at in_port))
+        (local.word u w m.place (shown_number w port.address) memory at
+        (λ j q in_port. each_write (Same p u w) m 0 memory.writes j j q nodes in_port (omega arith) memory q at in_port))
 
     memory_same : (m : MemId) (r b : ℕ) (o : Option Memory) → slice_get p.memories m.place ≡ o → Each (Same p u w) (read_needs_at m o r) → memory_at (s.word u m.place) u r b o ≡ memory_at (s.word w m.place) w r b o
     memory_same m r b None at h = refl
@@ -143,9 +143,9 @@ module _ (p : Parts) (u w : Valuation) where
   pub clock_same : (m : MemId) (k : ℕ) → Each (Same p u w) (write_needs_at m k (slice_get p.memories m.place)) → Same p u w (Write m k)
   clock_same m k h memory port at in_port =
       let inner : Each (Same p u w) (write_needs m k (slice_get memory.writes k)) =
-          subst (λ (o : Option Memory). Each (Same p u w) (write_needs_at m k o)) at h in
+      subst (λ (o : Option Memory). Each (Same p u w) (write_needs_at m k o)) at h in
       let deep : Each (Same p u w) (write_needs m k (Some port)) =
-          subst (λ (o : Option WritePort). Each (Same p u w) (write_needs m k o)) in_port inner in
+      subst (λ (o : Option WritePort). Each (Same p u w) (write_needs m k o)) in_port inner in
       deep.0
 
 -- ## Equations by element and by read bit

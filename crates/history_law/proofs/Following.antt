@@ -8,7 +8,7 @@ use Rattle.design_core.specs.Settled.{ElementHolds}
 use Rattle.design_core.specs.Event.{ElementFollows}
 use Rattle.history_law.specs.Events.{EventsKeepSettled}
 
-shown : (o : Option Bool) (x d : Bool) → x ≡ unwrap_or o d → IfSome o (λ b. x ≡ b)
+pub shown : (o : Option Bool) (x d : Bool) → x ≡ unwrap_or o d → IfSome o (λ b. x ≡ b)
 shown None x d e = tt
 shown (Some b) x d e = e
 

@@ -3,3 +3,5 @@ pub mod Naming
 pub mod Following
 pub mod Ranges
 pub mod Equations
+pub mod Afterwards
+pub mod Untouched

@@ -6,3 +6,4 @@
 
 pub mod drivers;
 pub mod events;
+pub mod outside;
