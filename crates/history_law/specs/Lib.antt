@@ -1,0 +1,3 @@
+pub mod Drivers
+pub mod Events
+pub mod Outside

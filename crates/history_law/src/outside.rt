@@ -1,0 +1,13 @@
+//! What holds of the nodes that a group does not reach.
+
+ghost use Rattle.history_law.specs.Outside.{OutsideStays, OutsideStoresNothing};
+
+/// In an event of a group, a net outside the group's influence keeps its value.
+pub fn outside_stays()
+    ensures { OutsideStays }
+{}
+
+/// In an event of a group, a write port outside the group's influence stores nothing.
+pub fn outside_stores_nothing()
+    ensures { OutsideStoresNothing }
+{}
