@@ -6,3 +6,4 @@ pub mod Settled
 pub mod Event
 pub mod Influence
 pub mod OneGate
+pub mod Plain

@@ -7,3 +7,4 @@ pub mod Acceptance
 pub mod Headline
 pub mod Law
 pub mod OneAction
+pub mod Plain
