@@ -40,7 +40,7 @@ ok_found told before now blamed words (answer.Accepted group) means is =
     record { names = means.names; shape = means.shape; held = accepted_held told means.names group means.means }
 ok_found told before now blamed words answer.Rejected means is = absurd (let e : status.Rejected ≡ status.Ok = is in cc)
 ok_found told before now blamed words (answer.TooLarge what) means is = absurd (let e : status.Refused ≡ status.Ok = is in cc)
-ok_found told before now blamed words (answer.NotYet what) means is = absurd (let e : status.Refused ≡ status.Ok = is in cc)
+ok_found told before now blamed words (answer.Refused what) means is = absurd (let e : status.Refused ≡ status.Ok = is in cc)
 ok_found told before now blamed words (answer.ReadFault name) means is = absurd (let e : status.ReadFault ≡ status.Ok = is in cc)
 
 rejected_found : (told : Option Held) (before now : ℕ) (blamed : Option (List ℕ)) (words : List (List ℕ)) (found : Answer) → CommandMeans told before now blamed words found → status_of found ≡ status.Rejected → ChecksRejected told words
@@ -49,7 +49,7 @@ rejected_found told before now blamed words (answer.Accepted group) means is = a
 rejected_found told before now blamed words answer.Rejected means is =
     record { names = means.names; shape = means.shape; held = rejected_held told means.names means.means }
 rejected_found told before now blamed words (answer.TooLarge what) means is = absurd (let e : status.Refused ≡ status.Rejected = is in cc)
-rejected_found told before now blamed words (answer.NotYet what) means is = absurd (let e : status.Refused ≡ status.Rejected = is in cc)
+rejected_found told before now blamed words (answer.Refused what) means is = absurd (let e : status.Refused ≡ status.Rejected = is in cc)
 rejected_found told before now blamed words (answer.ReadFault name) means is = absurd (let e : status.ReadFault ≡ status.Rejected = is in cc)
 
 usage_found : (told : Option Held) (before now : ℕ) (blamed : Option (List ℕ)) (words : List (List ℕ)) (found : Answer) → CommandMeans told before now blamed words found → status_of found ≡ status.Usage → IsNoCommand words
@@ -57,7 +57,7 @@ usage_found told before now blamed words answer.Usage means is = means
 usage_found told before now blamed words (answer.Accepted group) means is = absurd (let e : status.Ok ≡ status.Usage = is in cc)
 usage_found told before now blamed words answer.Rejected means is = absurd (let e : status.Rejected ≡ status.Usage = is in cc)
 usage_found told before now blamed words (answer.TooLarge what) means is = absurd (let e : status.Refused ≡ status.Usage = is in cc)
-usage_found told before now blamed words (answer.NotYet what) means is = absurd (let e : status.Refused ≡ status.Usage = is in cc)
+usage_found told before now blamed words (answer.Refused what) means is = absurd (let e : status.Refused ≡ status.Usage = is in cc)
 usage_found told before now blamed words (answer.ReadFault name) means is = absurd (let e : status.ReadFault ≡ status.Usage = is in cc)
 
 module _ (told : Option Held) (before now : ℕ) (blamed : Option (List ℕ)) (words : List (List ℕ)) (old new : Option (List ℕ)) (faults-before faults-now : ℕ) (ended : Status) (ends : Ends (CommandMeans told before now blamed words) old new faults-before faults-now ended) where

@@ -1,5 +1,5 @@
--- The first text that is not read, from what is known of the texts before it.
-use Rattle.std.proofs.Common.{ℕ, ◌≡◌, ◌<◌, ◌≤◌, ◌^◌, List, length, Option, Some, None, MatchOption, MatchResult, Result, Ok, Err, sym, subst, arith, lit<}
+-- The first text that is refused, from what is known of the texts before it.
+use Rattle.std.proofs.Common.{ℕ, ◌≡◌, ◌<◌, ◌≤◌, ◌^◌, List, length, Result, Ok, Err, refl, sym, subst, arith, lit<}
 use Rattle.design_core.specs.declared.one_gate.OneGate.{OneGate}
 use Rattle.domain_groups.specs.NoGroups.{SaysNoGroups}
 use Rattle.result_files.specs.declared.one_gate_netlist.OneGateNetlist.{OneGateNetlist}
@@ -9,25 +9,15 @@ use Rattle.result_files.specs.OneActionSchedule.{SaysSchedule}
 use Rattle.result_files.specs.TwoNetMap.{SaysMap}
 use Rattle.emu_app.specs.declared.what.What.{What}
 use Rattle.emu_app.specs.declared.what.What.TheVariants.{Design, Cells, Groups, Board, Netlist, Schedule, Map}
+use Rattle.emu_app.specs.declared.plan_texts.OneChip.{OneChip}
+use Rattle.emu_app.specs.declared.reading.Front.{Front}
+use Rattle.emu_app.specs.declared.refusal.Refusal.TheVariants as refusal
+use Rattle.emu_app.specs.declared.refusal.Unread.{Unread}
+use Rattle.emu_app.specs.declared.refusal.Unread.TheVariants as unread
 use Rattle.emu_app.specs.What.{order, limit}
 use Rattle.emu_app.specs.Fetching.{Texts, AreWithin}
-use Rattle.emu_app.specs.Forms.{SaysDesign, SaysBoard, SaysNetlist}
-use Rattle.emu_app.specs.Reading.{IsRead, FirstUnread}
-
--- what is known of an option that is None, or Some
-pub none_says : {X : Type 0} (found : Option X) (N : Type 0) (P : X → Type 0) → found ≡ None → MatchOption found N P → N
-none_says None N P is means = means
-none_says (Some x) N P is means = absurd (apart x is)
-  where
-    apart : {X : Type 0} (x : X) → Some x ≡ None → ⊥
-    apart x e = cc
-
-pub some_says : {X : Type 0} (found : Option X) (x : X) (N : Type 0) (P : X → Type 0) → found ≡ Some x → MatchOption found N P → P x
-some_says None x N P is means = absurd (apart x is)
-  where
-    apart : {X : Type 0} (x : X) → None ≡ Some x → ⊥
-    apart x e = cc
-some_says (Some y) x N P is means = let same : y ≡ x = cc in subst P same means
+use Rattle.emu_app.specs.Forms.{HasTree, SaysDesign, SaysBoard, SaysNetlist}
+use Rattle.emu_app.specs.Reading.{AllMean, DesignMeans, FirstUnread, FrontSays, IsRead, Means, NoneSaid}
 
 -- a text within its limit is short enough for the lexer
 pub short_text : (texts : Texts) (what : What) (bytes : List ℕ) → bytes ≡ texts what → AreWithin texts → length bytes < 2 ^ 32
@@ -45,35 +35,23 @@ short_text texts what bytes same within =
     small Schedule = lit< tt
     small Map = lit< tt
 
--- the texts before the board, the netlist, the schedule and the map are read
-pub record DesignRead (top : List ℕ) (texts : Texts) : Type 0 where
-  pub gate : OneGate
-  pub design : SaysDesign top (texts Design) gate
+-- a design that is described has a tree
+tree_of : (top text : List ℕ) (gate : OneGate) → SaysDesign top text gate → HasTree text
+tree_of top text gate says = record { tokens = says.tokens; tree = says.tree; is_tree = says.is_tree }
 
-pub record BoardDue (top : List ℕ) (texts : Texts) : Type 0 where
-  pub before : DesignRead top texts
-  pub groups : SaysNoGroups (texts Groups)
+-- a text of which the form is asked for alone is refused as the first, where all before it are read
+pub refused_as : {X Y : Type 0} (S : X → Type 0) (T : Y → Type 0) (top : List ℕ) (texts : Texts) (what : What) (why : Unread)
+    → Means what S (Err why) → (NoneSaid S → FirstUnread top texts what) → AllMean top texts T (Err why)
+refused_as S T top texts what (unread.Refused (refusal.NotYet other)) means first = subst (FirstUnread top texts) (sym means.0) (first means.1)
+refused_as S T top texts what (unread.Refused (refusal.Faulty fault)) means first = absurd means
+refused_as S T top texts what unread.NoMemory means first = tt
 
-pub record NetlistDue (top : List ℕ) (texts : Texts) : Type 0 where
-  pub before : BoardDue top texts
-  pub room : ℕ
-  pub slots : ℕ
-  pub board : SaysBoard (texts Board) room slots
-
-pub record ScheduleDue (top : List ℕ) (texts : Texts) : Type 0 where
-  pub before : NetlistDue top texts
-  pub netlist : OneGateNetlist
-  pub says : SaysNetlist (texts Netlist) netlist
-
-pub record MapDue (top : List ℕ) (texts : Texts) : Type 0 where
-  pub before : ScheduleDue top texts
-  pub schedule : OneActionSchedule
-  pub says : SaysSchedule (texts Schedule) schedule
-
-pub unread_design : (top : List ℕ) (texts : Texts) → ((gate : OneGate) → SaysDesign top (texts Design) gate → ⊥) → FirstUnread top texts Design
-unread_design top texts never = record { here = λ (gate, says). never gate says; earlier = before }
+-- the design is the first text, and has faults of its own
+pub refused_design : {Y : Type 0} (T : Y → Type 0) (top : List ℕ) (texts : Texts) (why : Unread) → DesignMeans top (texts Design) (Err why) → AllMean top texts T (Err why)
+refused_design T top texts (unread.Refused (refusal.Faulty fault)) means = means
+refused_design T top texts (unread.Refused (refusal.NotYet what)) means = subst (FirstUnread top texts) (sym means.0) (record { parsed = means.1; here = λ (gate, says). means.2 gate says; earlier = before })
   where
-    before : (other : What) → order other < order Design → IsRead top other (texts other)
+    before : (other : What) → order other < order Design → IsRead top texts other
     before Design early = absurd (omega (arith, early))
     before Cells early = tt
     before Groups early = absurd (omega (arith, early))
@@ -81,59 +59,68 @@ unread_design top texts never = record { here = λ (gate, says). never gate says
     before Netlist early = absurd (omega (arith, early))
     before Schedule early = absurd (omega (arith, early))
     before Map early = absurd (omega (arith, early))
+refused_design T top texts unread.NoMemory means = tt
 
-pub unread_board : (top : List ℕ) (texts : Texts) → BoardDue top texts → ((room slots : ℕ) → SaysBoard (texts Board) room slots → ⊥) → FirstUnread top texts Board
-unread_board top texts due never = record { here = λ (room, (slots, says)). never room slots says; earlier = before }
+pub unread_groups : (top : List ℕ) (texts : Texts) (gate : OneGate) → SaysDesign top (texts Design) gate → (SaysNoGroups (texts Groups) → ⊥) → FirstUnread top texts Groups
+unread_groups top texts gate design never = record { parsed = tree_of top (texts Design) gate design; here = never; earlier = before }
   where
-    before : (other : What) → order other < order Board → IsRead top other (texts other)
-    before Design early = (due.before.gate, due.before.design)
+    before : (other : What) → order other < order Groups → IsRead top texts other
+    before Design early = (gate, design)
     before Cells early = tt
-    before Groups early = due.groups
+    before Groups early = absurd (omega (arith, early))
     before Board early = absurd (omega (arith, early))
     before Netlist early = absurd (omega (arith, early))
     before Schedule early = absurd (omega (arith, early))
     before Map early = absurd (omega (arith, early))
 
-pub unread_netlist : (top : List ℕ) (texts : Texts) → NetlistDue top texts → ((netlist : OneGateNetlist) → SaysNetlist (texts Netlist) netlist → ⊥) → FirstUnread top texts Netlist
-unread_netlist top texts due never = record { here = λ (netlist, says). never netlist says; earlier = before }
+pub unread_board : (top : List ℕ) (texts : Texts) (gate : OneGate) → SaysDesign top (texts Design) gate → SaysNoGroups (texts Groups) → NoneSaid (SaysBoard (texts Board)) → FirstUnread top texts Board
+unread_board top texts gate design groups never = record { parsed = tree_of top (texts Design) gate design; here = λ (chip, says). never chip says; earlier = before }
   where
-    before : (other : What) → order other < order Netlist → IsRead top other (texts other)
-    before Design early = (due.before.before.gate, due.before.before.design)
+    before : (other : What) → order other < order Board → IsRead top texts other
+    before Design early = (gate, design)
     before Cells early = tt
-    before Groups early = due.before.groups
-    before Board early = (due.room, (due.slots, due.board))
+    before Groups early = groups
+    before Board early = absurd (omega (arith, early))
     before Netlist early = absurd (omega (arith, early))
     before Schedule early = absurd (omega (arith, early))
     before Map early = absurd (omega (arith, early))
 
-pub unread_schedule : (top : List ℕ) (texts : Texts) → ScheduleDue top texts → ((schedule : OneActionSchedule) → SaysSchedule (texts Schedule) schedule → ⊥) → FirstUnread top texts Schedule
-unread_schedule top texts due never = record { here = λ (schedule, says). never schedule says; earlier = before }
+pub unread_netlist : (top : List ℕ) (texts : Texts) (front : Front) → FrontSays top texts front → NoneSaid (SaysNetlist (texts Netlist)) → FirstUnread top texts Netlist
+unread_netlist top texts front says never = record { parsed = tree_of top (texts Design) front.design says.design; here = λ (netlist, writes). never netlist writes; earlier = before }
   where
-    before : (other : What) → order other < order Schedule → IsRead top other (texts other)
-    before Design early = (due.before.before.before.gate, due.before.before.before.design)
+    before : (other : What) → order other < order Netlist → IsRead top texts other
+    before Design early = (front.design, says.design)
     before Cells early = tt
-    before Groups early = due.before.before.groups
-    before Board early = (due.before.room, (due.before.slots, due.before.board))
-    before Netlist early = (due.netlist, due.says)
+    before Groups early = says.groups
+    before Board early = (front.chip, says.board)
+    before Netlist early = absurd (omega (arith, early))
     before Schedule early = absurd (omega (arith, early))
     before Map early = absurd (omega (arith, early))
 
-pub unread_map : (top : List ℕ) (texts : Texts) → MapDue top texts → ((map : TwoNetMap) → SaysMap (texts Map) map → ⊥) → FirstUnread top texts Map
-unread_map top texts due never = record { here = λ (map, says). never map says; earlier = before }
+pub unread_schedule : (top : List ℕ) (texts : Texts) (front : Front) (netlist : OneGateNetlist) → FrontSays top texts front → SaysNetlist (texts Netlist) netlist → NoneSaid (SaysSchedule (texts Schedule))
+    → FirstUnread top texts Schedule
+unread_schedule top texts front netlist says writes never =
+    record { parsed = tree_of top (texts Design) front.design says.design; here = λ (schedule, s). never schedule s; earlier = before }
   where
-    before : (other : What) → order other < order Map → IsRead top other (texts other)
-    before Design early = (due.before.before.before.before.gate, due.before.before.before.before.design)
+    before : (other : What) → order other < order Schedule → IsRead top texts other
+    before Design early = (front.design, says.design)
     before Cells early = tt
-    before Groups early = due.before.before.before.groups
-    before Board early = (due.before.before.room, (due.before.before.slots, due.before.before.board))
-    before Netlist early = (due.before.netlist, due.before.says)
-    before Schedule early = (due.schedule, due.says)
+    before Groups early = says.groups
+    before Board early = (front.chip, says.board)
+    before Netlist early = (netlist, writes)
+    before Schedule early = absurd (omega (arith, early))
     before Map early = absurd (omega (arith, early))
 
--- what is known of a result that is Ok
-pub ok_says : {X Y : Type 0} (found : Result X Y) (x : X) (P : X → Type 0) (Q : Y → Type 0) → found ≡ Ok x → MatchResult found P Q → P x
-ok_says (Ok y) x P Q is means = let same : y ≡ x = cc in subst P same means
-ok_says (Err e) x P Q is means = absurd (apart e x is)
+pub unread_map : (top : List ℕ) (texts : Texts) (front : Front) (netlist : OneGateNetlist) (schedule : OneActionSchedule) → FrontSays top texts front → SaysNetlist (texts Netlist) netlist → SaysSchedule (texts Schedule) schedule
+    → NoneSaid (SaysMap (texts Map)) → FirstUnread top texts Map
+unread_map top texts front netlist schedule says writes plans never =
+    record { parsed = tree_of top (texts Design) front.design says.design; here = λ (map, s). never map s; earlier = before }
   where
-    apart : {X Y : Type 0} (e : Y) (x : X) → Err e ≡ Ok x → ⊥
-    apart e x same = cc
+    before : (other : What) → order other < order Map → IsRead top texts other
+    before Design early = (front.design, says.design)
+    before Cells early = tt
+    before Groups early = says.groups
+    before Board early = (front.chip, says.board)
+    before Netlist early = (netlist, writes)
+    before Schedule early = (schedule, plans)
+    before Map early = absurd (omega (arith, early))

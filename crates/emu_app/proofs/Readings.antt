@@ -1,11 +1,16 @@
--- That a text is read as one thing only.
-use Rattle.std.proofs.Common.{ℕ, ◌≡◌, ◌≢◌, ◌<◌, List, [], ◌∷◌, length, slice_get, Option, Some, None, MatchOption, Result, Ok, Err, refl, sym, ◌∙◌, ap, subst, true, arith}
+-- That a text is read as one thing only, and what its refusals say.
+use Rattle.std.proofs.Common.{ℕ, ◌≡◌, ◌≢◌, ◌<◌, List, [], ◌∷◌, length, map, slice_get, Option, Some, None, MatchOption, Result, Ok, Err, refl, sym, ◌∙◌, ap, subst, true, arith}
 use Rattle.id_arena.specs.declared.wire.Wire.{Wire}
 use Rattle.id_arena.specs.BoardPlan.{BoardPlan}
 use Rattle.verilog_lex.specs.declared.token.Token.{Token}
 use Rattle.verilog_lex.specs.declared.fault.LexFault.{LexFault}
 use Rattle.verilog_lex.specs.declared.fault.LexFault.TheVariants as lex
 use Rattle.verilog_lex.specs.Reads as reading
+use Rattle.verilog_tree.specs.declared.parser.ParseFault.{ParseFault}
+use Rattle.verilog_tree.specs.declared.parser.ParseFault.TheVariants as parse
+use Rattle.verilog_tree.specs.declared.source.Source.{Source}
+use Rattle.verilog_tree.specs.Source.{Explains}
+use Rattle.verilog_tree.specs.Terminal.{terminal_at}
 use Rattle.design_core.specs.declared.one_gate.OneGate.{OneGate}
 use Rattle.elaborator.specs.OneGateText.{IsOneGateText}
 use Rattle.board_model.specs.declared.fault.BoardFault.{BoardFault}
@@ -13,8 +18,14 @@ use Rattle.board_model.specs.declared.fault.BoardFault.TheVariants as board
 use Rattle.board_model.specs.Answers as boards
 use Rattle.result_files.specs.declared.one_gate_netlist.OneGateNetlist.{OneGateNetlist}
 use Rattle.result_files.specs.OneGateNetlist.{IsOneGateNetlist}
-use Rattle.emu_app.specs.declared.read.OneChip.{OneChip}
-use Rattle.emu_app.specs.Forms.{AreTokens, SaysDesign, SaysBoard, SaysNetlist}
+use Rattle.emu_app.specs.declared.plan_texts.OneChip.{OneChip}
+use Rattle.emu_app.specs.declared.refusal.Refusal.TheVariants as refusal
+use Rattle.emu_app.specs.declared.refusal.Unread.{Unread}
+use Rattle.emu_app.specs.declared.refusal.Unread.TheVariants as unread
+use Rattle.emu_app.specs.declared.what.What.TheVariants.{Design}
+use Rattle.emu_app.specs.Faults.{HasNoTree, byte_of, lex_refusal, parse_refusal}
+use Rattle.emu_app.specs.Forms.{AreTokens, IsTreeOf, HasTree, SaysDesign, SaysBoard, SaysNetlist}
+use Rattle.emu_app.specs.Reading.{DesignMeans, NoneSaid, TreeMeans}
 
 -- two answers of one text are the same
 one_answer : reading.EachTextHasOneAnswer → (text : List ℕ) (a b : Result (List Token) LexFault) → reading.Reads text true 0 a → reading.Reads text true 0 b → a ≡ b
@@ -50,18 +61,52 @@ no_tokens law text fault answers apart tokens are =
     let same : left ≡ right = one_answer law text left right (fault_reads text fault answers apart) are in
     cc
 
--- where the tokens describe no design, the text describes none
-pub no_design : (top text : List ℕ) (tokens : List Token) → Alone text tokens → ((gate : OneGate) → IsOneGateText text tokens top gate → ⊥) → (gate : OneGate) → SaysDesign top text gate → ⊥
-no_design top text tokens alone never gate says =
-    never gate (subst (λ ts. IsOneGateText text ts top gate) (alone says.tokens says.are_tokens) says.describes)
+-- a text without tokens is refused by its first fault
+pub lex_means : (text : List ℕ) (fault : LexFault) → reading.Answers text (Err fault) → TreeMeans text (Err (lex_refusal fault))
+lex_means text (lex.BadByte at) reads = reads
+lex_means text (lex.OpenComment at) reads = reads
+lex_means text (lex.OpenAttribute at) reads = reads
+lex_means text (lex.BadNumber at) reads = reads
+lex_means text (lex.UnknownDigit at) reads = reads
+lex_means text (lex.Directive at) reads = reads
+lex_means text lex.NoMemory reads = tt
 
--- what the tokens write down, the text does
-pub netlist_found : (text : List ℕ) (tokens : List Token) (found : Option OneGateNetlist) → AreTokens text tokens → Alone text tokens
-    → MatchOption found ((netlist : OneGateNetlist) → IsOneGateNetlist text tokens netlist → ⊥) (IsOneGateNetlist text tokens)
-    → MatchOption found ((netlist : OneGateNetlist) → SaysNetlist text netlist → ⊥) (SaysNetlist text)
-netlist_found text tokens None are alone never = λ netlist says.
-    never netlist (subst (λ ts. IsOneGateNetlist text ts netlist) (alone says.tokens says.are_tokens) says.writes)
-netlist_found text tokens (Some netlist) are alone writes = record { tokens = tokens; are_tokens = are; writes = writes }
+-- a fault of the parser, with the byte of its token
+no_tree : (text : List ℕ) (tokens : List Token) (fault : ℕ → ParseFault) (place : ℕ) → AreTokens text tokens → Explains (map terminal_at tokens) (Err (fault place)) → HasNoTree text fault (byte_of text tokens place)
+no_tree text tokens fault place are explains = record { tokens = tokens; are_tokens = are; place = place; explains = explains; byte = refl }
+
+-- a text without a tree is refused by the parser's fault
+pub parse_means : (text : List ℕ) (tokens : List Token) (fault : ParseFault) → AreTokens text tokens → Explains (map terminal_at tokens) (Err fault) → TreeMeans text (Err (parse_refusal text tokens fault))
+parse_means text tokens (parse.Expected place) are explains = no_tree text tokens parse.Expected place are explains
+parse_means text tokens (parse.Unsupported place) are explains = no_tree text tokens parse.Unsupported place are explains
+parse_means text tokens (parse.TooDeep place) are explains = no_tree text tokens parse.TooDeep place are explains
+parse_means text tokens parse.NoMemory are explains = tt
+
+-- a text without a tree describes no design, and is refused by the same fault
+pub design_refused : (top text : List ℕ) (why : Unread) → TreeMeans text (Err why) → DesignMeans top text (Err why)
+design_refused top text (unread.Refused (refusal.Faulty fault)) means = means
+design_refused top text (unread.Refused (refusal.NotYet what)) means = absurd means
+design_refused top text unread.NoMemory means = tt
+
+-- where the tokens describe no design, the text describes none
+no_design : (top text : List ℕ) (tokens : List Token) → Alone text tokens → ((gate : OneGate) → IsOneGateText text tokens top gate → ⊥) → NoneSaid (SaysDesign top text)
+no_design top text tokens alone never gate says =
+    never gate (subst (λ ts. IsOneGateText text ts top gate) (alone says.tokens says.is_tree.are_tokens) says.describes)
+
+-- a tree that describes no design is not of the form
+pub design_not_yet : reading.EachTextHasOneAnswer → (top text : List ℕ) (tokens : List Token) (tree : Source) → IsTreeOf text tokens tree → ((gate : OneGate) → IsOneGateText text tokens top gate → ⊥)
+    → DesignMeans top text (Err (unread.Refused (refusal.NotYet Design)))
+design_not_yet law top text tokens tree is never =
+    (refl, record { tokens = tokens; tree = tree; is_tree = is }, no_design top text tokens (tokens_once law text tokens is.are_tokens) never)
+
+-- where the tokens write down no netlist, the text writes down none
+pub no_netlist : reading.EachTextHasOneAnswer → (text : List ℕ) (tokens : List Token) → AreTokens text tokens → ((netlist : OneGateNetlist) → IsOneGateNetlist text tokens netlist → ⊥) → NoneSaid (SaysNetlist text)
+no_netlist law text tokens are never netlist says =
+    never netlist (subst (λ ts. IsOneGateNetlist text ts netlist) (tokens_once law text tokens are says.tokens says.are_tokens) says.writes)
+
+-- a text without tokens writes down no netlist
+pub no_netlist_tokens : reading.EachTextHasOneAnswer → (text : List ℕ) (fault : LexFault) → reading.Answers text (Err fault) → (fault ≡ lex.NoMemory → ⊥) → NoneSaid (SaysNetlist text)
+no_netlist_tokens law text fault answers apart netlist says = no_tokens law text fault answers apart says.tokens says.are_tokens
 
 -- a plan of one chip and no wire, by its numbers
 abbrev pub one_chip_plan : ℕ → ℕ → BoardPlan
@@ -95,32 +140,17 @@ one_plan law text a b stands-a stands-b =
     let same : left ≡ right = law text left right left-kept right-kept stands-a stands-b in
     cc
 
--- what the board is, the text says
-pub chip_found : boards.EachTextHasOneAnswer → (text : List ℕ) (plan : BoardPlan) (found : Option OneChip) → boards.StandsFor text plan
-    → MatchOption found ((room slots : ℕ) → plan ≡ one_chip_plan room slots → ⊥) (λ chip. (plan ≡ one_chip_plan chip.room chip.slots) × (0 < chip.slots))
-    → MatchOption found ((room slots : ℕ) → SaysBoard text room slots → ⊥) (λ chip. SaysBoard text chip.room chip.slots × (0 < chip.slots))
-chip_found law text plan None stands never = λ room slots says. never room slots (one_plan law text plan (one_chip_plan room slots) stands says)
-chip_found law text plan (Some chip) stands (is, some) = (subst (boards.StandsFor text) is stands, some)
+-- where the board is not one chip without wires, the text says no such one
+pub no_chip : boards.EachTextHasOneAnswer → (text : List ℕ) (plan : BoardPlan) → boards.StandsFor text plan → ((room slots : ℕ) → plan ≡ one_chip_plan room slots → ⊥) → NoneSaid (SaysBoard text)
+no_chip law text plan stands never chip says = never chip.room chip.slots (one_plan law text plan (one_chip_plan chip.room chip.slots) stands says)
 
 -- a text with a fault stands for no board
-pub no_board : boards.EachTextHasOneAnswer → (text : List ℕ) (fault : BoardFault) → boards.Answers text (Err fault) → (fault ≡ board.NoMemory → ⊥) → (room slots : ℕ) → SaysBoard text room slots → ⊥
-no_board law text fault answers apart room slots says =
+pub no_board : boards.EachTextHasOneAnswer → (text : List ℕ) (fault : BoardFault) → boards.Answers text (Err fault) → (fault ≡ board.NoMemory → ⊥) → NoneSaid (SaysBoard text)
+no_board law text fault answers apart chip says =
     let left : Result BoardPlan BoardFault = Err fault in
-    let right : Result BoardPlan BoardFault = Ok (one_chip_plan room slots) in
+    let right : Result BoardPlan BoardFault = Ok (one_chip_plan chip.room chip.slots) in
     let memory : Result BoardPlan BoardFault = Err board.NoMemory in
     let left-kept : left ≢ memory = λ e. apart cc in
     let right-kept : right ≢ memory = λ e. cc in
     let same : left ≡ right = law text left right left-kept right-kept answers says in
     cc
-
--- tokens that were found are those of the text, and no others are
-pub found_tokens : (text : List ℕ) (found : Option (List Token)) (tokens : List Token) → found ≡ Some tokens
-    → MatchOption found ((others : List Token) → AreTokens text others → ⊥) (λ ts. AreTokens text ts × Alone text ts)
-    → AreTokens text tokens × Alone text tokens
-found_tokens text None tokens is means = absurd (some_none tokens is)
-  where
-    some_none : (ts : List Token) → None ≡ Some ts → ⊥
-    some_none ts e = cc
-found_tokens text (Some others) tokens is means =
-    let same : others ≡ tokens = cc in
-    subst (λ ts. AreTokens text ts × Alone text ts) same means

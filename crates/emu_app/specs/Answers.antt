@@ -14,7 +14,7 @@ use Rattle.emu_app.specs.declared.status.Status.TheVariants as status
 use Rattle.emu_app.specs.Command.{CheckWords, IsCheck, IsNoCommand, name_of}
 use Rattle.emu_app.specs.Fetching.{Texts, AreHeld, NotThere, FirstTooLarge}
 use Rattle.emu_app.specs.Printing.{accepted_text, text_of, status_of}
-use Rattle.emu_app.specs.Reading.{StandForOne, FirstUnread}
+use Rattle.emu_app.specs.Reading.{StandForOne, Refuses}
 
 -- The texts stand for one case, and the rules A1 to A12 hold for it: then the machine agrees with the
 -- design after every event, for every opening and every list of events. The text lists its frames.
@@ -35,7 +35,7 @@ pub record Rejects (top : List ℕ) (texts : Texts) : Type 0 where
 abbrev pub JudgeMeans : List ℕ → Texts → Answer → Type 0
 JudgeMeans top texts (answer.Accepted group) = Accepts top texts (text_of (answer.Accepted group))
 JudgeMeans top texts answer.Rejected = Rejects top texts
-JudgeMeans top texts (answer.NotYet what) = FirstUnread top texts what
+JudgeMeans top texts (answer.Refused why) = Refuses top texts why
 JudgeMeans top texts other = ⊥
 
 -- the texts that are held under these names, which are all there and within their limits, come to an answer

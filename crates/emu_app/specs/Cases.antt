@@ -1,21 +1,14 @@
--- The case that texts stand for, as the program holds it.
-use Rattle.std.specs.Prelude.{◌<◌, ℕ, List}
-use Rattle.emu_machine.specs.Acceptance.{Case}
-use Rattle.schedule_check.specs.OneGateCase.{one_gate_case}
-use Rattle.emu_app.specs.declared.check.OneCase.{OneCase}
+-- The case that texts stand for, and what judging it comes to.
+-- The rules are told in docs/FORMATS.md, "Commands" and "Printed texts".
+use Rattle.std.specs.Prelude.{ℕ, List}
+use Rattle.emu_machine.specs.declared.one_action.OneAction.{OneAction}
 use Rattle.emu_app.specs.declared.answer.Answer.{Answer}
+use Rattle.emu_app.specs.declared.reading.Front.{Front}
 use Rattle.emu_app.specs.Fetching.{Texts}
-use Rattle.emu_app.specs.Reading.{StandForOne}
+use Rattle.emu_app.specs.Reading.{StandForOne, case_of}
 use Rattle.emu_app.specs.Answers.{JudgeMeans}
 
-abbrev pub case_of : OneCase → Case
-case_of c = one_gate_case c.design c.chip.room c.chip.slots c.results
-
--- the texts stand for this case alone, and its board allows a slot
-pub record ReadsCase (top : List ℕ) (texts : Texts) (c : OneCase) : Type 0 where
-  pub stand : StandForOne top texts (case_of c)
-  pub some : 0 < c.chip.slots
-
 -- the answer is right for all texts that stand for this case alone
-abbrev pub JudgesAll : OneCase → Answer → Type 0
-JudgesAll c found = (top : List ℕ) (texts : Texts) → StandForOne top texts (case_of c) → JudgeMeans top texts found
+abbrev pub JudgesAll : Front → OneAction → Answer → Type 0
+JudgesAll front results found =
+    (top : List ℕ) (texts : Texts) → StandForOne top texts (case_of front results) → JudgeMeans top texts found

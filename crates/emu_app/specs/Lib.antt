@@ -2,6 +2,7 @@ pub mod What
 pub mod Command
 pub mod Fetching
 pub mod Forms
+pub mod Faults
 pub mod Printing
 pub mod Reading
 pub mod Answers

@@ -4,6 +4,11 @@ use Rattle.std.specs.Prelude.{ℕ, List, [], ◌∷◌, ◌++◌, codes, decimal
 use Rattle.emu_machine.specs.declared.schedule.Frame.{Frame}
 use Rattle.emu_app.specs.declared.answer.Answer.{Answer}
 use Rattle.emu_app.specs.declared.answer.Answer.TheVariants as answer
+use Rattle.emu_app.specs.declared.refusal.TextFault.{TextFault}
+use Rattle.emu_app.specs.declared.refusal.TextFault.TheVariants.{BadByte, OpenComment, OpenAttribute, BadNumber, UnknownDigit, Directive, Expected, Unsupported, TooDeep}
+use Rattle.emu_app.specs.declared.refusal.Fault.{Fault}
+use Rattle.emu_app.specs.declared.refusal.Refusal.{Refusal}
+use Rattle.emu_app.specs.declared.refusal.Refusal.TheVariants as refusal
 use Rattle.emu_app.specs.declared.status.Status.{Status}
 use Rattle.emu_app.specs.declared.status.Status.TheVariants as status
 use Rattle.emu_app.specs.What.{label}
@@ -24,12 +29,33 @@ accepted_text frames = line (codes "accepted") ++ flat_map frame_line frames
 abbrev pub accepted_text_of : List ℕ → List ℕ
 accepted_text_of group = line (codes "accepted") ++ line (codes "frame " ++ group ++ codes " 1")
 
+-- the name of a fault, with a space after it
+abbrev pub fault_name : TextFault → List ℕ
+fault_name BadByte = codes "BadByte "
+fault_name OpenComment = codes "OpenComment "
+fault_name OpenAttribute = codes "OpenAttribute "
+fault_name BadNumber = codes "BadNumber "
+fault_name UnknownDigit = codes "UnknownDigit "
+fault_name Directive = codes "Directive "
+fault_name Expected = codes "Expected "
+fault_name Unsupported = codes "Unsupported "
+fault_name TooDeep = codes "TooDeep "
+
+-- `refused design FAULT PLACE`
+abbrev pub fault_text_of : Fault → List ℕ
+fault_text_of fault = line (codes "refused design " ++ fault_name fault.kind ++ decimal fault.at)
+
+-- the text of a refusal
+abbrev pub refusal_text : Refusal → List ℕ
+refusal_text (refusal.Faulty fault) = fault_text_of fault
+refusal_text (refusal.NotYet what) = line (codes "refused " ++ label what ++ codes " NotYet")
+
 abbrev pub text_of : Answer → List ℕ
 text_of answer.Usage = line (codes "usage: emu check|compile|make|replay|settle")
 text_of (answer.Accepted group) = accepted_text_of group
 text_of answer.Rejected = line (codes "rejected")
 text_of (answer.TooLarge what) = line (codes "refused " ++ label what ++ codes " TooLarge")
-text_of (answer.NotYet what) = line (codes "refused " ++ label what ++ codes " NotYet")
+text_of (answer.Refused why) = refusal_text why
 text_of (answer.ReadFault name) = line (codes "read fault " ++ name)
 
 abbrev pub status_of : Answer → Status
@@ -37,5 +63,5 @@ status_of answer.Usage = status.Usage
 status_of (answer.Accepted group) = status.Ok
 status_of answer.Rejected = status.Rejected
 status_of (answer.TooLarge what) = status.Refused
-status_of (answer.NotYet what) = status.Refused
+status_of (answer.Refused why) = status.Refused
 status_of (answer.ReadFault name) = status.ReadFault

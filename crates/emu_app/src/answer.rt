@@ -1,11 +1,13 @@
 //! What a command answers: a status and a text.
 
 ghost use Rattle.std.specs.Prelude.{◌++◌, ◌≡◌, IfOk, OnErr, OnOk};
-ghost use Rattle.emu_app.specs.Printing.{accepted_text_of, line, status_of, text_of};
+ghost use Rattle.emu_app.specs.Printing.{accepted_text_of, fault_name, fault_text_of, line, status_of, text_of};
 
+use crate::refusal::{Fault, Refusal, TextFault};
 use crate::status::Status;
 use crate::what::What;
 use emu_io::{NoMemory, Text};
+use itoa::Buffer;
 use std::alloc::Global;
 
 /// What a command found.
@@ -19,8 +21,8 @@ pub enum Answer {
     Rejected,
     /// This text is longer than its limit.
     TooLarge(What),
-    /// This text is not of the form that is read so far.
-    NotYet(What),
+    /// A text is refused.
+    Refused(Refusal),
     /// The text of this name could not be fetched.
     ReadFault { name: Text },
 }
@@ -34,7 +36,7 @@ impl Answer {
             Answer::Usage => Status::Usage,
             Answer::Accepted { .. } => Status::Ok,
             Answer::Rejected => Status::Rejected,
-            Answer::TooLarge(_) | Answer::NotYet(_) => Status::Refused,
+            Answer::TooLarge(_) | Answer::Refused(_) => Status::Refused,
             Answer::ReadFault { .. } => Status::ReadFault,
         }
     }
@@ -53,7 +55,10 @@ impl Answer {
             Answer::Accepted { group } => accepted_text(alloc, group.bytes()),
             Answer::Rejected => line(alloc, b"rejected", b"", b""),
             Answer::TooLarge(what) => line(alloc, b"refused ", what.label(), b" TooLarge"),
-            Answer::NotYet(what) => line(alloc, b"refused ", what.label(), b" NotYet"),
+            Answer::Refused(Refusal::Faulty(fault)) => fault_text(alloc, fault),
+            Answer::Refused(Refusal::NotYet(what)) => {
+                line(alloc, b"refused ", what.label(), b" NotYet")
+            }
             Answer::ReadFault { name } => line(alloc, b"read fault ", name.bytes(), b""),
         }
     }
@@ -87,4 +92,35 @@ fn accepted_text(alloc: Global, group: &[u8]) -> Result<Vec<u8>, NoMemory>
     let frame = line(alloc, b"frame ", group, b" 1")?;
     append(&mut text, frame.as_slice())?;
     Ok(text)
+}
+
+/// The printed name of a fault.
+fn fault_name(kind: TextFault) -> &'static [u8]
+    ensures { result.now ≡ fault_name kind }
+{
+    match kind {
+        TextFault::BadByte => b"BadByte ",
+        TextFault::OpenComment => b"OpenComment ",
+        TextFault::OpenAttribute => b"OpenAttribute ",
+        TextFault::BadNumber => b"BadNumber ",
+        TextFault::UnknownDigit => b"UnknownDigit ",
+        TextFault::Directive => b"Directive ",
+        TextFault::Expected => b"Expected ",
+        TextFault::Unsupported => b"Unsupported ",
+        TextFault::TooDeep => b"TooDeep ",
+    }
+}
+
+/// The line that names a fault of the design text.
+fn fault_text(alloc: Global, fault: &Fault) -> Result<Vec<u8>, NoMemory>
+    ensures { IfOk result (λ text. text.items ≡ fault_text_of fault.now) }
+{
+    let mut buffer = Buffer::new();
+    let place = buffer.format(fault.at);
+    line(
+        alloc,
+        b"refused design ",
+        fault_name(fault.kind),
+        place.as_bytes(),
+    )
 }

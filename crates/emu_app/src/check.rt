@@ -1,33 +1,21 @@
 //! The command `check`: judges results.
 
-ghost use Rattle.std.specs.Prelude.{◌≡◌, ◌<◌, IfOk, MatchResult, length};
+ghost use Rattle.std.specs.Prelude.{◌≡◌, ◌<◌, IfOk, length};
 ghost use Rattle.emu_app.specs.Answers.{CheckMeans, JudgeMeans};
-ghost use Rattle.emu_app.specs.Cases.{JudgesAll, ReadsCase};
+ghost use Rattle.emu_app.specs.Cases.{JudgesAll};
 ghost use Rattle.emu_app.specs.Command.{words_of};
 ghost use Rattle.emu_app.specs.Fetching.{AreWithin, texts_of};
-ghost use Rattle.emu_app.specs.Reading.{FirstUnread, TextsTellCasesApart, results_of};
+ghost use Rattle.emu_app.specs.Reading.{AllMean, TextsTellCasesApart};
 
 use crate::answer::Answer;
 use crate::command::CheckNames;
 use crate::fetch::{Stop, fetch_texts};
-use crate::read::{
-    OneChip, read_design, read_map, read_netlist, read_one_chip, read_schedule, says_no_groups,
-};
-use crate::what::What;
-use design_core::OneGate;
+use crate::reading::{Front, read_front, read_results};
+use crate::refusal::Unread;
 use emu_io::{Files, List, NoMemory, Text};
 use emu_machine::OneAction;
-use result_files::{OneActionSchedule, OneGateNetlist, TwoNetMap};
 use schedule_check::{accepted_agrees, is_accepted};
 use std::alloc::Global;
-
-/// A design, a board of one chip, and results for them.
-#[derive(Debug, Drop)]
-pub struct OneCase {
-    pub design: OneGate,
-    pub chip: OneChip,
-    pub results: OneAction,
-}
 
 /// Fetches the texts of `check` and judges them.
 pub fn check<F: Files>(
@@ -55,87 +43,37 @@ fn judge_texts(alloc: Global, top: &[u8], texts: &List<Text>) -> Result<Answer, 
     requires within { AreWithin (texts_of texts.now) }
     ensures { IfOk result (JudgeMeans top.now (texts_of texts.now)) }
 {
-    match read_case(alloc, top, texts)? {
-        Ok(case) => Ok(judge_case(case)),
-        Err(what) => Ok(Answer::NotYet(what)),
+    match judge_read(alloc, top, texts) {
+        Ok(found) => Ok(found),
+        Err(Unread::Refused(why)) => Ok(Answer::Refused(why)),
+        Err(Unread::NoMemory) => Err(NoMemory),
     }
+}
+
+/// The verdict on what the texts stand for, or why they are refused.
+fn judge_read(alloc: Global, top: &[u8], texts: &List<Text>) -> Result<Answer, Unread>
+    requires count { length texts.now ≡ 7 }
+    requires within { AreWithin (texts_of texts.now) }
+    ensures { AllMean top.now (texts_of texts.now) (JudgeMeans top.now (texts_of texts.now)) result }
+{
+    texts_tell_cases_apart();
+    let front = read_front(alloc, top, texts)?;
+    let results = read_results(alloc, top, texts, &front)?;
+    Ok(judge_case(&front, results))
 }
 
 /// The verdict on a case.
-fn judge_case(case: OneCase) -> Answer
-    requires { 0 < case.chip.slots }
-    ensures { JudgesAll case result }
+fn judge_case(front: &Front, results: OneAction) -> Answer
+    requires { 0 < front.now.chip.slots }
+    ensures { JudgesAll front.now results result }
 {
     accepted_agrees();
-    if is_accepted(&case.design, case.chip.room, case.chip.slots, &case.results) {
+    if is_accepted(&front.design, front.chip.room, front.chip.slots, &results) {
         Answer::Accepted {
-            group: case.results.group,
+            group: results.group,
         }
     } else {
         Answer::Rejected
-    }
-}
-
-/// The case that the texts stand for, or the first text that is not of its form.
-fn read_case(
-    alloc: Global,
-    top: &[u8],
-    texts: &List<Text>,
-) -> Result<Result<OneCase, What>, NoMemory>
-    requires count { length texts.now ≡ 7 }
-    requires within { AreWithin (texts_of texts.now) }
-    ensures { IfOk result (λ read. MatchResult read (ReadsCase top.now (texts_of texts.now)) (FirstUnread top.now (texts_of texts.now))) }
-{
-    texts_tell_cases_apart();
-    let Some(design) = read_design(alloc, top, text_at(texts, What::Design))? else {
-        return Ok(Err(What::Design));
-    };
-    if !says_no_groups(alloc, text_at(texts, What::Groups))? {
-        return Ok(Err(What::Groups));
-    }
-    let Some(chip) = read_one_chip(alloc, text_at(texts, What::Board))? else {
-        return Ok(Err(What::Board));
-    };
-    let Some(netlist) = read_netlist(alloc, text_at(texts, What::Netlist))? else {
-        return Ok(Err(What::Netlist));
-    };
-    let Some(schedule) = read_schedule(alloc, text_at(texts, What::Schedule))? else {
-        return Ok(Err(What::Schedule));
-    };
-    let Some(map) = read_map(alloc, text_at(texts, What::Map))? else {
-        return Ok(Err(What::Map));
-    };
-    Ok(Ok(OneCase {
-        design,
-        chip,
-        results: results_of(netlist, schedule, map),
-    }))
-}
-
-/// The bytes of one of the texts.
-fn text_at(texts: &List<Text>, what: What) -> &[u8]
-    requires { length texts.now ≡ 7 }
-    ensures { result.now ≡ texts_of texts.now what }
-{
-    texts.get(what.order()).bytes()
-}
-
-/// The results that a netlist, a schedule and a map make together.
-fn results_of(netlist: OneGateNetlist, schedule: OneActionSchedule, map: TwoNetMap) -> OneAction
-    ensures { result ≡ results_of netlist schedule map }
-{
-    OneAction {
-        inverts: netlist.inverts,
-        gate_drives_second: netlist.gate_drives_second,
-        gate_reads_second: netlist.gate_reads_second,
-        group: schedule.group,
-        chip: schedule.chip,
-        register: schedule.register,
-        net: schedule.net,
-        first_subject: map.first_subject,
-        second_subject: map.second_subject,
-        kept: map.kept,
-        shows_second: map.shows_second,
     }
 }
 

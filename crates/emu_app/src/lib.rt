@@ -9,8 +9,12 @@
 mod answer;
 mod check;
 mod command;
+mod design_text;
 mod fetch;
-mod read;
+mod plan_texts;
+mod reading;
+mod refusal;
+mod result_texts;
 mod status;
 mod top;
 mod what;

@@ -1,6 +1,6 @@
 use Rattle.std.proofs.Common.{rules, ◌≡◌, length, Some, slice_get}
 use Rattle.emu_app.proofs.Readings.{is_one_chip}
-use Rattle.emu_app.proofs.read.one_chip.Goals as goal
+use Rattle.emu_app.proofs.plan_texts.one_chip.Goals as goal
 
 pub returns-then-wires-eq0 : goal.returns-then-wires-eq0
 returns-then-wires-eq0 c =
