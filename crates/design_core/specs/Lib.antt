@@ -6,3 +6,6 @@ pub mod Settled
 pub mod Event
 pub mod Influence
 pub mod OneGate
+pub mod Limits
+pub mod Names
+pub mod Tables
