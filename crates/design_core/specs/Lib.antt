@@ -9,3 +9,4 @@ pub mod OneGate
 pub mod Limits
 pub mod Names
 pub mod Tables
+pub mod Weight
