@@ -10,3 +10,5 @@ pub mod Limits
 pub mod Names
 pub mod Tables
 pub mod Weight
+pub mod Faults
+pub mod Drives
