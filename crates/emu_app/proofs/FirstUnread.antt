@@ -8,7 +8,7 @@ use Rattle.result_files.specs.declared.two_net_map.TwoNetMap.{TwoNetMap}
 use Rattle.result_files.specs.OneActionSchedule.{SaysSchedule}
 use Rattle.result_files.specs.TwoNetMap.{SaysMap}
 use Rattle.emu_app.specs.declared.what.What.{What}
-use Rattle.emu_app.specs.declared.what.What.TheVariants.{Design, Cells, Groups, Board, Netlist, Schedule, Map}
+use Rattle.emu_app.specs.declared.what.What.TheVariants.{Design, Cells, Groups, Board, Netlist, Schedule, Map, Opening, Events}
 use Rattle.emu_app.specs.declared.plan_texts.OneChip.{OneChip}
 use Rattle.emu_app.specs.declared.reading.Front.{Front}
 use Rattle.emu_app.specs.declared.refusal.Refusal.TheVariants as refusal
@@ -34,6 +34,8 @@ short_text texts what bytes same within =
     small Netlist = lit< tt
     small Schedule = lit< tt
     small Map = lit< tt
+    small Opening = lit< tt
+    small Events = lit< tt
 
 -- a design that is described has a tree
 tree_of : (top text : List ℕ) (gate : OneGate) → SaysDesign top text gate → HasTree text
@@ -59,6 +61,8 @@ refused_design T top texts (unread.Refused (refusal.NotYet what)) means = subst 
     before Netlist early = absurd (omega (arith, early))
     before Schedule early = absurd (omega (arith, early))
     before Map early = absurd (omega (arith, early))
+    before Opening early = absurd (omega (arith, early))
+    before Events early = absurd (omega (arith, early))
 refused_design T top texts unread.NoMemory means = tt
 
 pub unread_groups : (top : List ℕ) (texts : Texts) (gate : OneGate) → SaysDesign top (texts Design) gate → (SaysNoGroups (texts Groups) → ⊥) → FirstUnread top texts Groups
@@ -72,6 +76,8 @@ unread_groups top texts gate design never = record { parsed = tree_of top (texts
     before Netlist early = absurd (omega (arith, early))
     before Schedule early = absurd (omega (arith, early))
     before Map early = absurd (omega (arith, early))
+    before Opening early = absurd (omega (arith, early))
+    before Events early = absurd (omega (arith, early))
 
 pub unread_board : (top : List ℕ) (texts : Texts) (gate : OneGate) → SaysDesign top (texts Design) gate → SaysNoGroups (texts Groups) → NoneSaid (SaysBoard (texts Board)) → FirstUnread top texts Board
 unread_board top texts gate design groups never = record { parsed = tree_of top (texts Design) gate design; here = λ (chip, says). never chip says; earlier = before }
@@ -84,6 +90,8 @@ unread_board top texts gate design groups never = record { parsed = tree_of top 
     before Netlist early = absurd (omega (arith, early))
     before Schedule early = absurd (omega (arith, early))
     before Map early = absurd (omega (arith, early))
+    before Opening early = absurd (omega (arith, early))
+    before Events early = absurd (omega (arith, early))
 
 pub unread_netlist : (top : List ℕ) (texts : Texts) (front : Front) → FrontSays top texts front → NoneSaid (SaysNetlist (texts Netlist)) → FirstUnread top texts Netlist
 unread_netlist top texts front says never = record { parsed = tree_of top (texts Design) front.design says.design; here = λ (netlist, writes). never netlist writes; earlier = before }
@@ -96,6 +104,8 @@ unread_netlist top texts front says never = record { parsed = tree_of top (texts
     before Netlist early = absurd (omega (arith, early))
     before Schedule early = absurd (omega (arith, early))
     before Map early = absurd (omega (arith, early))
+    before Opening early = absurd (omega (arith, early))
+    before Events early = absurd (omega (arith, early))
 
 pub unread_schedule : (top : List ℕ) (texts : Texts) (front : Front) (netlist : OneGateNetlist) → FrontSays top texts front → SaysNetlist (texts Netlist) netlist → NoneSaid (SaysSchedule (texts Schedule))
     → FirstUnread top texts Schedule
@@ -110,6 +120,8 @@ unread_schedule top texts front netlist says writes never =
     before Netlist early = (netlist, writes)
     before Schedule early = absurd (omega (arith, early))
     before Map early = absurd (omega (arith, early))
+    before Opening early = absurd (omega (arith, early))
+    before Events early = absurd (omega (arith, early))
 
 pub unread_map : (top : List ℕ) (texts : Texts) (front : Front) (netlist : OneGateNetlist) (schedule : OneActionSchedule) → FrontSays top texts front → SaysNetlist (texts Netlist) netlist → SaysSchedule (texts Schedule) schedule
     → NoneSaid (SaysMap (texts Map)) → FirstUnread top texts Map
@@ -124,3 +136,5 @@ unread_map top texts front netlist schedule says writes plans never =
     before Netlist early = (netlist, writes)
     before Schedule early = (schedule, plans)
     before Map early = absurd (omega (arith, early))
+    before Opening early = absurd (omega (arith, early))
+    before Events early = absurd (omega (arith, early))

@@ -1,4 +1,3 @@
-pub mod NineWords
 pub mod Fetches
 pub mod Readings
 pub mod OneCases

@@ -1,4 +1,4 @@
--- What `check` answers, and when each answer comes.
+-- What commands answer, and when each answer comes.
 -- The rules are told in docs/FORMATS.md, "Commands" and "Printed texts".
 use Rattle.std.specs.Prelude.{◌≡◌, ◌≤◌, ℕ, List, length, take, Option, IfSome}
 use Rattle.emu_io.specs.Files.{Held}
@@ -8,11 +8,13 @@ use Rattle.emu_machine.specs.Acceptance.{Case, IsAccepted}
 use Rattle.emu_machine.specs.Headline.{Headline}
 use Rattle.emu_app.specs.declared.answer.Answer.{Answer}
 use Rattle.emu_app.specs.declared.answer.Answer.TheVariants as answer
+use Rattle.emu_app.specs.declared.command.Command.{Command}
+use Rattle.emu_app.specs.declared.command.Command.TheVariants.{Check}
 use Rattle.emu_app.specs.declared.what.What.{What}
 use Rattle.emu_app.specs.declared.status.Status.{Status}
 use Rattle.emu_app.specs.declared.status.Status.TheVariants as status
-use Rattle.emu_app.specs.Command.{CheckWords, IsCheck, IsNoCommand, name_of}
-use Rattle.emu_app.specs.Fetching.{Texts, AreHeld, NotThere, FirstTooLarge}
+use Rattle.emu_app.specs.Command.{CommandWords, IsCommand, IsNoCommand, name_of}
+use Rattle.emu_app.specs.Fetching.{Texts, AreHeld, ReadFails, FirstTooLarge}
 use Rattle.emu_app.specs.Printing.{accepted_text, text_of, status_of}
 use Rattle.emu_app.specs.Reading.{StandForOne, Refuses}
 
@@ -31,42 +33,47 @@ pub record Rejects (top : List ℕ) (texts : Texts) : Type 0 where
   pub stand : StandForOne top texts judged
   pub rejected : IsAccepted judged → ⊥
 
--- what the texts of `check` come to; it is no matter of other answers
+-- what judging the texts comes to; it is no matter of other answers
 abbrev pub JudgeMeans : List ℕ → Texts → Answer → Type 0
 JudgeMeans top texts (answer.Accepted group) = Accepts top texts (text_of (answer.Accepted group))
 JudgeMeans top texts answer.Rejected = Rejects top texts
 JudgeMeans top texts (answer.Refused why) = Refuses top texts why
 JudgeMeans top texts other = ⊥
 
+-- what the command makes of the texts
+abbrev pub WorkMeans : Command → List ℕ → Texts → Answer → Type 0
+WorkMeans Check top texts found = JudgeMeans top texts found
+WorkMeans other top texts found = ⊥
+
 -- the texts that are held under these names, which are all there and within their limits, come to an answer
-pub record HeldMeans (held : Held) (n : CheckWords) (found : Answer) : Type 0 where
+pub record HeldMeans (held : Held) (n : CommandWords) (found : Answer) : Type 0 where
   pub texts : Texts
   pub are_held : AreHeld held n texts
-  pub means : JudgeMeans n.top texts found
+  pub means : WorkMeans n.command n.top texts found
 
--- why a text could not be fetched: the printed name is that of a text of the command
-pub record ReadFails (told : Option Held) (before now : ℕ) (blamed : Option (List ℕ)) (n : CheckWords) (name : List ℕ) : Type 0 where
+-- a text of the command could not be fetched, and its name is printed
+pub record NameFails (told : Option Held) (before now : ℕ) (blamed : Option (List ℕ)) (n : CommandWords) (name : List ℕ) : Type 0 where
   pub what : What
   pub named : name ≡ name_of n what
-  pub cause : NotThere told before now blamed name
+  pub fails : ReadFails told before now blamed n what
 
--- by the answer of `check`, with the counts of failed fetches before and after
-abbrev pub CheckMeans : Option Held → ℕ → ℕ → Option (List ℕ) → CheckWords → Answer → Type 0
-CheckMeans told before now blamed n answer.Usage = ⊥
-CheckMeans told before now blamed n (answer.TooLarge what) = FirstTooLarge told before now n what
-CheckMeans told before now blamed n (answer.ReadFault name) = ReadFails told before now blamed n name
-CheckMeans told before now blamed n found = IfSome told (λ held. HeldMeans held n found)
+-- by the answer of a command, with the counts of failed fetches before and after
+abbrev pub FoundMeans : Option Held → ℕ → ℕ → Option (List ℕ) → CommandWords → Answer → Type 0
+FoundMeans told before now blamed n answer.Usage = ⊥
+FoundMeans told before now blamed n (answer.TooLarge what) = FirstTooLarge told before now n what
+FoundMeans told before now blamed n (answer.ReadFault name) = NameFails told before now blamed n name
+FoundMeans told before now blamed n found = IfSome told (λ held. HeldMeans held n found)
 
--- the words are those of `check`, and it came to this answer
-pub record IsChecked (told : Option Held) (before now : ℕ) (blamed : Option (List ℕ)) (words : List (List ℕ)) (found : Answer) : Type 0 where
-  pub names : CheckWords
-  pub shape : IsCheck words names
-  pub means : CheckMeans told before now blamed names found
+-- the words are those of a command, and it came to this answer
+pub record IsFound (told : Option Held) (before now : ℕ) (blamed : Option (List ℕ)) (words : List (List ℕ)) (found : Answer) : Type 0 where
+  pub names : CommandWords
+  pub shape : IsCommand words names
+  pub means : FoundMeans told before now blamed names found
 
 -- by the answer of a command: `Usage` exactly for words that are those of no command
 abbrev pub CommandMeans : Option Held → ℕ → ℕ → Option (List ℕ) → List (List ℕ) → Answer → Type 0
 CommandMeans told before now blamed words answer.Usage = IsNoCommand words
-CommandMeans told before now blamed words found = IsChecked told before now blamed words found
+CommandMeans told before now blamed words found = IsFound told before now blamed words found
 
 -- what is written of an answer's text: all of it
 pub record Prints (Means : Answer → Type 0) (old new : Option (List ℕ)) (ended : Status) : Type 0 where

@@ -1,50 +1,99 @@
 -- The words of commands.
 -- The rule is told in docs/FORMATS.md, "Commands".
-use Rattle.std.specs.Prelude.{◌≡◌, ℕ, List, [], ◌∷◌, codes}
-use Rattle.emu_app.specs.declared.command.CheckNames.{CheckNames}
+use Rattle.std.specs.Prelude.{◌≡◌, ◌<◌, ℕ, ◌==◌, Bool, true, false, if◌then◌else◌, List, [], ◌∷◌, codes, length, slice_get, unwrap_or}
+use Rattle.emu_app.specs.declared.command.Command.{Command}
+use Rattle.emu_app.specs.declared.command.Command.TheVariants.{Check, Settle, Replay}
+use Rattle.emu_app.specs.declared.command.CommandNames.{CommandNames}
 use Rattle.emu_app.specs.declared.what.What.{What}
-use Rattle.emu_app.specs.declared.what.What.TheVariants.{Design, Cells, Groups, Board, Netlist, Schedule, Map}
+use Rattle.emu_app.specs.declared.what.What.TheVariants.{Design, Cells, Groups, Board, Netlist, Schedule, Map, Opening, Events}
+use Rattle.emu_app.specs.What.{order}
 
--- the name of the top module, and the names of the texts
-pub record CheckWords : Type 0 where
+-- the first word of a command
+abbrev pub command_word : Command → List ℕ
+command_word Check = codes "check"
+command_word Settle = codes "settle"
+command_word Replay = codes "replay"
+
+-- whether a command is built so far
+abbrev pub is_built : Command → Bool
+is_built Check = true
+is_built Settle = false
+is_built Replay = false
+
+-- a command that is built has this word
+abbrev pub IsNamed : Command → List ℕ → Type 0
+IsNamed command word = (command_word command ≡ word) × (is_built command ≡ true)
+
+-- how many texts a command reads
+abbrev pub text_count : Command → ℕ
+text_count Check = 7
+text_count Settle = 5
+text_count Replay = 9
+
+-- the place of a text among those that `settle` reads; beyond them for one that it does not read
+abbrev pub settle_place : What → ℕ
+settle_place Design = 0
+settle_place Cells = 1
+settle_place Groups = 2
+settle_place Opening = 3
+settle_place Events = 4
+settle_place other = 5
+
+-- the place of a text among those that a command reads, in the order of its words
+abbrev pub place_of : Command → What → ℕ
+place_of Settle what = settle_place what
+place_of other what = order what
+
+-- a command reads a text
+abbrev pub Reads : Command → What → Type 0
+Reads command what = place_of command what < text_count command
+
+-- the text at a place of the order of all, and of those that `settle` reads
+abbrev pub what_at : ℕ → What
+what_at place =
+    if place == 0 then Design
+    else if place == 1 then Cells
+    else if place == 2 then Groups
+    else if place == 3 then Board
+    else if place == 4 then Netlist
+    else if place == 5 then Schedule
+    else if place == 6 then Map
+    else if place == 7 then Opening
+    else Events
+
+abbrev pub settle_what_at : ℕ → What
+settle_what_at place =
+    if place == 0 then Design
+    else if place == 1 then Cells
+    else if place == 2 then Groups
+    else if place == 3 then Opening
+    else Events
+
+-- the text at a place of the words of a command
+abbrev pub text_at : Command → ℕ → What
+text_at Settle place = settle_what_at place
+text_at other place = what_at place
+
+-- a command, the name of the top module, and the names of the texts in the order of the words
+pub record CommandWords : Type 0 where
+  pub command : Command
   pub top : List ℕ
-  pub design : List ℕ
-  pub cells : List ℕ
-  pub groups : List ℕ
-  pub board : List ℕ
-  pub netlist : List ℕ
-  pub schedule : List ℕ
-  pub map : List ℕ
+  pub names : List (List ℕ)
 
-abbrev pub name_of : CheckWords → What → List ℕ
-name_of n Design = n.design
-name_of n Cells = n.cells
-name_of n Groups = n.groups
-name_of n Board = n.board
-name_of n Netlist = n.netlist
-name_of n Schedule = n.schedule
-name_of n Map = n.map
+-- the name of a text
+abbrev pub name_of : CommandWords → What → List ℕ
+name_of n what = unwrap_or (slice_get n.names (place_of n.command what)) []
 
--- `check TOP DESIGN CELLS GROUPS BOARD NETLIST SCHEDULE MAP`
-abbrev pub IsCheck : List (List ℕ) → CheckWords → Type 0
-IsCheck words n =
-    words
-    ≡ codes "check" ∷ n.top ∷ n.design ∷ n.cells ∷ n.groups ∷ n.board ∷ n.netlist ∷ n.schedule ∷ n.map ∷ []
+-- `COMMAND TOP TEXT ..`, with a name for each text that the command reads
+pub record IsCommand (words : List (List ℕ)) (n : CommandWords) : Type 0 where
+  pub shape : words ≡ command_word n.command ∷ n.top ∷ n.names
+  pub count : length n.names ≡ text_count n.command
+  pub built : is_built n.command ≡ true
 
 -- the words are those of no command that is built so far
 abbrev pub IsNoCommand : List (List ℕ) → Type 0
-IsNoCommand words = (n : CheckWords) → IsCheck words n → ⊥
+IsNoCommand words = (n : CommandWords) → IsCommand words n → ⊥
 
 -- the words that names stand for
-abbrev pub words_of : CheckNames → CheckWords
-words_of n =
-    record {
-      top = n.top.now;
-      design = n.design.now;
-      cells = n.cells.now;
-      groups = n.groups.now;
-      board = n.board.now;
-      netlist = n.netlist.now;
-      schedule = n.schedule.now;
-      map = n.map.now;
-    }
+abbrev pub words_of : CommandNames → CommandWords
+words_of n = record { command = n.command; top = n.top.now; names = n.names.now }

@@ -1,16 +1,18 @@
--- What the statuses of `check` say of the texts that are held, in facts of their own.
+-- What the statuses Ok and Rejected say of the texts that are held, in facts of their own.
 -- The rules are told in docs/FORMATS.md, "Commands".
 use Rattle.std.specs.Prelude.{ℕ, List, Option, IfSome}
 use Rattle.emu_io.specs.Files.{Held}
 use Rattle.emu_machine.specs.Acceptance.{Case, IsAccepted}
 use Rattle.emu_machine.specs.Headline.{Headline}
-use Rattle.emu_app.specs.Command.{CheckWords, IsCheck}
+use Rattle.emu_app.specs.declared.command.Command.{Command}
+use Rattle.emu_app.specs.declared.command.Command.TheVariants.{Check}
+use Rattle.emu_app.specs.Command.{CommandWords, IsCommand}
 use Rattle.emu_app.specs.Fetching.{Texts, AreHeld}
 use Rattle.emu_app.specs.Reading.{StandForOne}
 
 -- the texts that are held under the names stand for one case alone, the rules A1 to A12 hold for it, and so
 -- the machine agrees with the design after every event, for every opening and every list of events
-pub record HoldsAccepted (n : CheckWords) (held : Held) : Type 0 where
+pub record HoldsAccepted (n : CommandWords) (held : Held) : Type 0 where
   pub texts : Texts
   pub are_held : AreHeld held n texts
   pub judged : Case
@@ -18,22 +20,32 @@ pub record HoldsAccepted (n : CheckWords) (held : Held) : Type 0 where
   pub accepted : IsAccepted judged
   pub headline : Headline judged
 
--- the words are those of `check`, and where the files tell what they hold, it is accepted
-pub record ChecksAccepted (told : Option Held) (words : List (List ℕ)) : Type 0 where
-  pub names : CheckWords
-  pub shape : IsCheck words names
-  pub held : IfSome told (HoldsAccepted names)
-
 -- the texts that are held under the names stand for one case alone, and one of the rules fails for it
-pub record HoldsRejected (n : CheckWords) (held : Held) : Type 0 where
+pub record HoldsRejected (n : CommandWords) (held : Held) : Type 0 where
   pub texts : Texts
   pub are_held : AreHeld held n texts
   pub judged : Case
   pub stand : StandForOne n.top texts judged
   pub rejected : IsAccepted judged → ⊥
 
--- the words are those of `check`, and where the files tell what they hold, it is rejected
-pub record ChecksRejected (told : Option Held) (words : List (List ℕ)) : Type 0 where
-  pub names : CheckWords
-  pub shape : IsCheck words names
-  pub held : IfSome told (HoldsRejected names)
+-- what Ok says by the command
+abbrev pub OkHolds : Command → CommandWords → Held → Type 0
+OkHolds Check n held = HoldsAccepted n held
+OkHolds other n held = ⊥
+
+-- what Rejected says by the command
+abbrev pub RejectedHolds : Command → CommandWords → Held → Type 0
+RejectedHolds Check n held = HoldsRejected n held
+RejectedHolds other n held = ⊥
+
+-- the words are those of a command, and where the files tell what they hold, it did its work
+pub record IsOk (told : Option Held) (words : List (List ℕ)) : Type 0 where
+  pub names : CommandWords
+  pub shape : IsCommand words names
+  pub held : IfSome told (OkHolds names.command names)
+
+-- the words are those of a command, and where the files tell what they hold, it rejects results
+pub record IsRejected (told : Option Held) (words : List (List ℕ)) : Type 0 where
+  pub names : CommandWords
+  pub shape : IsCommand words names
+  pub held : IfSome told (RejectedHolds names.command names)

@@ -12,7 +12,7 @@ use Rattle.emu_machine.specs.declared.one_action.OneAction.{OneAction}
 use Rattle.emu_machine.specs.Acceptance.{Case}
 use Rattle.schedule_check.specs.OneGateCase.{one_gate_case}
 use Rattle.emu_app.specs.declared.what.What.{What}
-use Rattle.emu_app.specs.declared.what.What.TheVariants.{Design, Cells, Groups, Board, Netlist, Schedule, Map}
+use Rattle.emu_app.specs.declared.what.What.TheVariants.{Design, Cells, Groups, Board, Netlist, Schedule, Map, Opening, Events}
 use Rattle.emu_app.specs.declared.plan_texts.OneChip.{OneChip}
 use Rattle.emu_app.specs.declared.design_text.Parsed.{Parsed}
 use Rattle.emu_app.specs.declared.reading.Front.{Front}
@@ -110,6 +110,8 @@ IsRead top texts Board = (chip : OneChip) × SaysBoard (texts Board) chip
 IsRead top texts Netlist = (netlist : OneGateNetlist) × SaysNetlist (texts Netlist) netlist
 IsRead top texts Schedule = (schedule : OneActionSchedule) × SaysSchedule (texts Schedule) schedule
 IsRead top texts Map = (map : TwoNetMap) × SaysMap (texts Map) map
+IsRead top texts Opening = Unit {0}
+IsRead top texts Events = Unit {0}
 
 -- the design text has a tree, and this text is the first that is not of its form
 pub record FirstUnread (top : List ℕ) (texts : Texts) (what : What) : Type 0 where

@@ -1,8 +1,8 @@
--- The texts that `check` reads, with their limits.
+-- The texts that commands read, with their limits.
 -- The rules are told in docs/FORMATS.md, "Commands" and "Limits".
-use Rattle.std.specs.Prelude.{ℕ, ◌==◌, List, codes, if◌then◌else◌}
+use Rattle.std.specs.Prelude.{ℕ, List, codes}
 use Rattle.emu_app.specs.declared.what.What.{What}
-use Rattle.emu_app.specs.declared.what.What.TheVariants.{Design, Cells, Groups, Board, Netlist, Schedule, Map}
+use Rattle.emu_app.specs.declared.what.What.TheVariants.{Design, Cells, Groups, Board, Netlist, Schedule, Map, Opening, Events}
 
 -- the word for a text in a printed refusal
 abbrev pub label : What → List ℕ
@@ -13,6 +13,8 @@ label Board = codes "board"
 label Netlist = codes "netlist"
 label Schedule = codes "schedule"
 label Map = codes "map"
+label Opening = codes "opening"
+label Events = codes "events"
 
 -- the most bytes that a text may have
 abbrev pub limit : What → ℕ
@@ -23,6 +25,8 @@ limit Board = 67108864
 limit Netlist = 4294967295
 limit Schedule = 4294967295
 limit Map = 4294967295
+limit Opening = 67108864
+limit Events = 67108864
 
 -- the place of a text in the order in which texts are fetched, and then read
 abbrev pub order : What → ℕ
@@ -33,14 +37,5 @@ order Board = 3
 order Netlist = 4
 order Schedule = 5
 order Map = 6
-
--- the text at a place of that order
-abbrev pub what_at : ℕ → What
-what_at place =
-    if place == 0 then Design
-    else if place == 1 then Cells
-    else if place == 2 then Groups
-    else if place == 3 then Board
-    else if place == 4 then Netlist
-    else if place == 5 then Schedule
-    else Map
+order Opening = 7
+order Events = 8

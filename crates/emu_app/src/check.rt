@@ -1,47 +1,27 @@
 //! The command `check`: judges results.
 
 ghost use Rattle.std.specs.Prelude.{◌≡◌, ◌<◌, IfOk, length};
-ghost use Rattle.emu_app.specs.Answers.{CheckMeans, JudgeMeans};
+ghost use Rattle.emu_app.specs.Answers.{JudgeMeans};
 ghost use Rattle.emu_app.specs.Cases.{JudgesAll};
-ghost use Rattle.emu_app.specs.Command.{words_of};
+ghost use Rattle.emu_app.specs.Command.{text_count};
+ghost use Rattle.emu_app.specs.declared.command.Command.{Command};
 ghost use Rattle.emu_app.specs.Fetching.{AreWithin, texts_of};
 ghost use Rattle.emu_app.specs.Reading.{AllMean, TextsTellCasesApart};
 
 use crate::answer::Answer;
-use crate::command::CheckNames;
-use crate::fetch::{Stop, fetch_texts};
+use crate::command::Command;
 use crate::reading::{Front, read_front, read_results};
 use crate::refusal::Unread;
-use emu_io::{Files, List, NoMemory, Text};
+use emu_io::{List, NoMemory, Text};
 use emu_machine::OneAction;
 use schedule_check::{accepted_agrees, is_accepted};
 use std::alloc::Global;
 
-/// Fetches the texts of `check` and judges them.
-pub fn check<F: Files>(
-    alloc: Global,
-    files: &mut F,
-    names: &CheckNames<'_>,
-) -> Result<Answer, NoMemory>
-    ensures means { IfOk result (λ found. CheckMeans (F.held files.old) (F.read_faults files.old) (F.read_faults files.new) (F.blamed files.new) (words_of names.now) found) }
-    ensures held_same { F.held files.new ≡ F.held files.old }
-    ensures stores_same { F.store_faults files.new ≡ F.store_faults files.old }
-{
-    match fetch_texts(alloc, files, names) {
-        Ok(texts) => judge_texts(alloc, names.top.bytes(), &texts),
-        Err(Stop::NotThere(what)) => Ok(Answer::ReadFault {
-            name: Text::from_bytes(alloc, names.name(what).bytes())?,
-        }),
-        Err(Stop::TooLarge(what)) => Ok(Answer::TooLarge(what)),
-        Err(Stop::NoMemory) => Err(NoMemory),
-    }
-}
-
 /// Reads the texts and judges the case that they stand for.
-fn judge_texts(alloc: Global, top: &[u8], texts: &List<Text>) -> Result<Answer, NoMemory>
-    requires count { length texts.now ≡ 7 }
-    requires within { AreWithin (texts_of texts.now) }
-    ensures { IfOk result (JudgeMeans top.now (texts_of texts.now)) }
+pub fn judge_texts(alloc: Global, top: &[u8], texts: &List<Text>) -> Result<Answer, NoMemory>
+    requires count { length texts.now ≡ text_count Command.Check }
+    requires within { AreWithin (texts_of Command.Check texts.now) }
+    ensures { IfOk result (JudgeMeans top.now (texts_of Command.Check texts.now)) }
 {
     match judge_read(alloc, top, texts) {
         Ok(found) => Ok(found),
@@ -52,9 +32,9 @@ fn judge_texts(alloc: Global, top: &[u8], texts: &List<Text>) -> Result<Answer, 
 
 /// The verdict on what the texts stand for, or why they are refused.
 fn judge_read(alloc: Global, top: &[u8], texts: &List<Text>) -> Result<Answer, Unread>
-    requires count { length texts.now ≡ 7 }
-    requires within { AreWithin (texts_of texts.now) }
-    ensures { AllMean top.now (texts_of texts.now) (JudgeMeans top.now (texts_of texts.now)) result }
+    requires count { length texts.now ≡ text_count Command.Check }
+    requires within { AreWithin (texts_of Command.Check texts.now) }
+    ensures { AllMean top.now (texts_of Command.Check texts.now) (JudgeMeans top.now (texts_of Command.Check texts.now)) result }
 {
     texts_tell_cases_apart();
     let front = read_front(alloc, top, texts)?;

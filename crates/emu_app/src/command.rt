@@ -1,68 +1,101 @@
 //! The words of a command.
 
-ghost use Rattle.std.specs.Prelude.{◌≡◌, MatchOption};
-ghost use Rattle.emu_app.specs.Command.{IsCheck, IsNoCommand, name_of, words_of};
+ghost use Rattle.std.specs.Prelude.{◌<◌, ◌≡◌, List, ℕ, MatchOption, length};
+ghost use Rattle.emu_app.specs.Command.{IsCommand, IsNamed, IsNoCommand, Reads, name_of, place_of, text_at, text_count, words_of};
+ghost use Rattle.emu_app.specs.declared.command.Command.{Command};
 
 use crate::what::What;
 use emu_io::Word;
 
-/// The words of `check` after the first: the name of the top module, and the names of seven texts.
-#[derive(Clone, Copy, Debug, Drop)]
-pub struct CheckNames<'w> {
-    pub top: &'w Word,
-    pub design: &'w Word,
-    pub cells: &'w Word,
-    pub groups: &'w Word,
-    pub board: &'w Word,
-    pub netlist: &'w Word,
-    pub schedule: &'w Word,
-    pub map: &'w Word,
+/// A command over texts.
+#[derive(Clone, Copy, Debug, Drop, PartialEq, Eq)]
+pub enum Command {
+    /// Judges results.
+    Check,
+    /// Runs events on the original.
+    Settle,
+    /// Runs events on the results.
+    Replay,
 }
 
-/// The names that the words of `check` give; None exactly where the words are none of `check`.
-pub fn check_names(words: &[Word]) -> Option<CheckNames<'_>>
-    ensures { MatchOption result (IsNoCommand words.now) (λ names. IsCheck words.now (words_of names)) }
-{
-    match words {
-        [
-            command,
-            top,
-            design,
-            cells,
-            groups,
-            board,
-            netlist,
-            schedule,
-            map,
-        ] if command.bytes() == b"check".as_slice() => {
-            Some(CheckNames {
-                top,
-                design,
-                cells,
-                groups,
-                board,
-                netlist,
-                schedule,
-                map,
-            })
+impl Command {
+    /// The command of a word; None exactly where the word is none of a command that is built so far.
+    pub fn named(word: &[u8]) -> Option<Command>
+        ensures { MatchOption result ((command : Command) → IsNamed command word.now → ⊥) (λ command. IsNamed command word.now) }
+    {
+        if word == b"check".as_slice() {
+            Some(Command::Check)
+        } else {
+            None
         }
-        _ => None,
+    }
+
+    /// The number of texts that the command reads.
+    pub fn text_count(self) -> u32
+        ensures { result ≡ text_count self }
+    {
+        match self {
+            Command::Check => 7,
+            Command::Settle => 5,
+            Command::Replay => 9,
+        }
+    }
+
+    /// The place of a text among those that the command reads; beyond them for one that it does not read.
+    pub fn place_of(self, what: What) -> u64
+        ensures { result ≡ place_of self what }
+    {
+        match self {
+            Command::Settle => what.settle_place(),
+            Command::Check | Command::Replay => what.order(),
+        }
+    }
+
+    /// The text at a place of the words.
+    pub fn text_at(self, place: u32) -> What
+        ensures { result ≡ text_at self place }
+    {
+        match self {
+            Command::Settle => What::settle_at(place),
+            Command::Check | Command::Replay => What::at(place),
+        }
     }
 }
 
-impl<'w> CheckNames<'w> {
-    /// The name of one of the texts.
+/// The words of a command: the name of the top module, and the names of the texts in their order.
+#[derive(Clone, Copy, Debug, Drop)]
+pub struct CommandNames<'w> {
+    pub command: Command,
+    pub top: &'w Word,
+    pub names: &'w [Word],
+}
+
+/// The command and the names that words give; None exactly where they are the words of no command.
+pub fn command_names(words: &[Word]) -> Option<CommandNames<'_>>
+    ensures { MatchOption result (IsNoCommand words.now) (λ names. IsCommand words.now (words_of names)) }
+{
+    let [word, top, names @ ..] = words else {
+        return None;
+    };
+    let command = Command::named(word.bytes())?;
+    if names.len() == command.text_count() as usize {
+        Some(CommandNames {
+            command,
+            top,
+            names,
+        })
+    } else {
+        None
+    }
+}
+
+impl<'w> CommandNames<'w> {
+    /// The name of one of the texts that the command reads.
     pub fn name(&self, what: What) -> &'w Word
+        requires reads { Reads self.now.command what }
+        requires count { length self.now.names.now ≡ text_count self.now.command }
         ensures { result.now ≡ name_of (words_of self.now) what }
     {
-        match what {
-            What::Design => self.design,
-            What::Cells => self.cells,
-            What::Groups => self.groups,
-            What::Board => self.board,
-            What::Netlist => self.netlist,
-            What::Schedule => self.schedule,
-            What::Map => self.map,
-        }
+        &self.names[self.command.place_of(what) as usize]
     }
 }

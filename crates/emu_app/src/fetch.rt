@@ -2,11 +2,11 @@
 
 ghost use Rattle.std.specs.Prelude.{◌≡◌, ◌≤◌, IfOk, length};
 ghost use Rattle.emu_app.specs.What.{limit};
-ghost use Rattle.emu_app.specs.Command.{words_of};
+ghost use Rattle.emu_app.specs.Command.{text_count, words_of};
 ghost use Rattle.emu_app.specs.Fetching.{AreWithin, TextMeans, TextsMean, texts_of};
 
-use crate::command::CheckNames;
-use crate::what::{TEXTS, What, what_at};
+use crate::command::CommandNames;
+use crate::what::What;
 use emu_io::{FetchFault, Files, List, NoMemory, Text, Word};
 use std::alloc::Global;
 
@@ -53,21 +53,22 @@ pub fn fetch_text<F: Files>(
     }
 }
 
-/// All texts of `check`, in their order.
+/// All texts of a command, in the order of its words.
 pub fn fetch_texts<F: Files>(
     alloc: Global,
     files: &mut F,
-    names: &CheckNames<'_>,
+    names: &CommandNames<'_>,
 ) -> Result<List<Text>, Stop>
-    ensures count { IfOk result (λ texts. length texts ≡ 7) }
-    ensures within { IfOk result (λ texts. AreWithin (texts_of texts)) }
-    ensures means { TextsMean texts_of (F.held files.old) (F.read_faults files.old) (F.read_faults files.new) (F.blamed files.new) (words_of names.now) result }
+    requires named { length names.now.names.now ≡ text_count names.now.command }
+    ensures count { IfOk result (λ texts. length texts ≡ text_count names.now.command) }
+    ensures within { IfOk result (λ texts. AreWithin (texts_of names.now.command texts)) }
+    ensures means { TextsMean (texts_of names.now.command) (F.held files.old) (F.read_faults files.old) (F.read_faults files.new) (F.blamed files.new) (words_of names.now) result }
     ensures held_same { F.held files.new ≡ F.held files.old }
     ensures stores_same { F.store_faults files.new ≡ F.store_faults files.old }
 {
     let mut texts = List::new(alloc);
-    'texts: for place in 0..TEXTS {
-        let what = what_at(place);
+    'texts: for place in 0..names.command.text_count() {
+        let what = names.command.text_at(place);
         let bytes = fetch_text(alloc, files, names.name(what), what)?;
         texts.push(Text::from_vec(bytes))?;
     }

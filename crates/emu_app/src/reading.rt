@@ -1,9 +1,11 @@
 //! Reading the texts of a command, in their order; the first that is refused decides.
 
 ghost use Rattle.std.specs.Prelude.{◌<◌, ◌≡◌, IfOk, length};
+ghost use Rattle.emu_app.specs.Command.{Reads, text_count};
 ghost use Rattle.emu_app.specs.Fetching.{AreWithin, texts_of};
 ghost use Rattle.emu_app.specs.Reading.{AllMean, FrontSays, ResultsSay, results_of};
 
+use crate::command::Command;
 use crate::design_text::read_design;
 use crate::plan_texts::{OneChip, read_groups, read_one_chip};
 use crate::refusal::Unread;
@@ -22,24 +24,25 @@ pub struct Front {
     pub chip: OneChip,
 }
 
-/// The bytes of one of the texts.
-fn text_at(texts: &List<Text>, what: What) -> &[u8]
-    requires { length texts.now ≡ 7 }
-    ensures { result.now ≡ texts_of texts.now what }
+/// The bytes of one of the texts of a command.
+pub fn text_at(command: Command, texts: &List<Text>, what: What) -> &[u8]
+    requires count { length texts.now ≡ text_count command }
+    requires reads { Reads command what }
+    ensures { result.now ≡ texts_of command texts.now what }
 {
-    texts.get(what.order()).bytes()
+    texts.get(command.place_of(what)).bytes()
 }
 
 /// The design, the groups and the board that the texts say.
 pub fn read_front(alloc: Global, top: &[u8], texts: &List<Text>) -> Result<Front, Unread>
-    requires count { length texts.now ≡ 7 }
-    requires within { AreWithin (texts_of texts.now) }
-    ensures means { AllMean top.now (texts_of texts.now) (FrontSays top.now (texts_of texts.now)) result }
+    requires count { length texts.now ≡ text_count Command.Check }
+    requires within { AreWithin (texts_of Command.Check texts.now) }
+    ensures means { AllMean top.now (texts_of Command.Check texts.now) (FrontSays top.now (texts_of Command.Check texts.now)) result }
     ensures some { IfOk result (λ front. 0 < front.chip.slots) }
 {
-    let design = read_design(alloc, top, text_at(texts, What::Design))?;
-    read_groups(alloc, text_at(texts, What::Groups))?;
-    let chip = read_one_chip(alloc, text_at(texts, What::Board))?;
+    let design = read_design(alloc, top, text_at(Command::Check, texts, What::Design))?;
+    read_groups(alloc, text_at(Command::Check, texts, What::Groups))?;
+    let chip = read_one_chip(alloc, text_at(Command::Check, texts, What::Board))?;
     Ok(Front { design, chip })
 }
 
@@ -50,15 +53,15 @@ pub fn read_results(
     texts: &List<Text>,
     front: &Front,
 ) -> Result<OneAction, Unread>
-    requires count { length texts.now ≡ 7 }
-    requires within { AreWithin (texts_of texts.now) }
-    requires before { FrontSays top.now (texts_of texts.now) front.now }
-    ensures { AllMean top.now (texts_of texts.now) (ResultsSay (texts_of texts.now)) result }
+    requires count { length texts.now ≡ text_count Command.Check }
+    requires within { AreWithin (texts_of Command.Check texts.now) }
+    requires before { FrontSays top.now (texts_of Command.Check texts.now) front.now }
+    ensures { AllMean top.now (texts_of Command.Check texts.now) (ResultsSay (texts_of Command.Check texts.now)) result }
 {
     let _before = front;
-    let netlist = read_netlist(alloc, text_at(texts, What::Netlist))?;
-    let schedule = read_schedule(alloc, text_at(texts, What::Schedule))?;
-    let map = read_map(alloc, text_at(texts, What::Map))?;
+    let netlist = read_netlist(alloc, text_at(Command::Check, texts, What::Netlist))?;
+    let schedule = read_schedule(alloc, text_at(Command::Check, texts, What::Schedule))?;
+    let map = read_map(alloc, text_at(Command::Check, texts, What::Map))?;
     Ok(results_of(netlist, schedule, map))
 }
 

@@ -1,16 +1,62 @@
 //! The top call.
 
-ghost use Rattle.std.specs.Prelude.{◌≡◌, IfOk};
-ghost use Rattle.emu_app.specs.Answers.{CommandMeans, Ends};
-ghost use Rattle.emu_app.specs.Command.{IsNoCommand};
-ghost use Rattle.emu_app.specs.Outcomes.{ChecksAccepted, ChecksRejected};
+ghost use Rattle.std.specs.Prelude.{◌≡◌, true, IfOk, length};
+ghost use Rattle.emu_app.specs.Answers.{CommandMeans, Ends, FoundMeans, WorkMeans};
+ghost use Rattle.emu_app.specs.Command.{IsNoCommand, Reads, is_built, name_of, text_count, words_of};
+ghost use Rattle.emu_app.specs.Fetching.{AreWithin, texts_of};
+ghost use Rattle.emu_app.specs.Outcomes.{IsOk, IsRejected};
 
 use crate::answer::Answer;
-use crate::check::check;
-use crate::command::check_names;
+use crate::check::judge_texts;
+use crate::command::{Command, CommandNames, command_names};
+use crate::fetch::{Stop, fetch_texts};
 use crate::status::Status;
-use emu_io::{Files, NoMemory, Sink, StoreFault, Word};
+use crate::what::What;
+use emu_io::{Files, List, NoMemory, Sink, StoreFault, Text, Word};
 use std::alloc::Global;
+
+/// What the command makes of its texts.
+fn work(alloc: Global, names: &CommandNames<'_>, texts: &List<Text>) -> Result<Answer, NoMemory>
+    requires built { is_built names.now.command ≡ true }
+    requires count { length texts.now ≡ text_count names.now.command }
+    requires within { AreWithin (texts_of names.now.command texts.now) }
+    ensures { IfOk result (WorkMeans names.now.command names.now.top.now (texts_of names.now.command texts.now)) }
+{
+    match names.command {
+        Command::Check => judge_texts(alloc, names.top.bytes(), texts),
+        Command::Settle | Command::Replay => Ok(Answer::Usage),
+    }
+}
+
+/// Fetches the texts of a command and does its work.
+fn fetch_and_work<F: Files>(
+    alloc: Global,
+    files: &mut F,
+    names: &CommandNames<'_>,
+) -> Result<Answer, NoMemory>
+    requires built { is_built names.now.command ≡ true }
+    requires named { length names.now.names.now ≡ text_count names.now.command }
+    ensures means { IfOk result (FoundMeans (F.held files.old) (F.read_faults files.old) (F.read_faults files.new) (F.blamed files.new) (words_of names.now)) }
+    ensures held_same { F.held files.new ≡ F.held files.old }
+    ensures stores_same { F.store_faults files.new ≡ F.store_faults files.old }
+{
+    match fetch_texts(alloc, files, names) {
+        Ok(texts) => work(alloc, names, &texts),
+        Err(Stop::NotThere(what)) => read_fault(alloc, names, what),
+        Err(Stop::TooLarge(what)) => Ok(Answer::TooLarge(what)),
+        Err(Stop::NoMemory) => Err(NoMemory),
+    }
+}
+
+/// The answer that a text could not be fetched.
+fn read_fault(alloc: Global, names: &CommandNames<'_>, what: What) -> Result<Answer, NoMemory>
+    requires named { length names.now.names.now ≡ text_count names.now.command }
+    requires reads { Reads names.now.command what }
+    ensures { IfOk result (λ found. found ≡ Answer.ReadFault (name_of (words_of names.now) what)) }
+{
+    let name = Text::from_bytes(alloc, names.name(what).bytes())?;
+    Ok(Answer::ReadFault { name })
+}
 
 /// What the words ask for, and what came of it.
 fn answer<F: Files>(alloc: Global, words: &[Word], files: &mut F) -> Result<Answer, NoMemory>
@@ -18,8 +64,8 @@ fn answer<F: Files>(alloc: Global, words: &[Word], files: &mut F) -> Result<Answ
     ensures held_same { F.held files.new ≡ F.held files.old }
     ensures stores_same { F.store_faults files.new ≡ F.store_faults files.old }
 {
-    match check_names(words) {
-        Some(names) => check(alloc, files, &names),
+    match command_names(words) {
+        Some(names) => fetch_and_work(alloc, files, &names),
         None => Ok(Answer::Usage),
     }
 }
@@ -53,10 +99,10 @@ fn run_command<F: Files, O: Sink>(
 /// The words are those of `check TOP DESIGN CELLS GROUPS BOARD NETLIST SCHEDULE MAP`; other commands
 /// are not built yet. Texts are fetched first, in the order of the words; the first failure decides.
 pub fn run<F: Files, O: Sink>(alloc: Global, words: &[Word], files: &mut F, out: &mut O) -> Status
-    // Status Ok: the machine of the texts that are held agrees with their design, come what may.
-    ensures accepted { result ≡ Status.Ok → ChecksAccepted (F.held files.old) words.now }
+    // Status Ok, for `check`: the machine of the texts that are held agrees with their design, come what may.
+    ensures accepted { result ≡ Status.Ok → IsOk (F.held files.old) words.now }
     // Status Rejected: a rule of acceptance fails for the texts that are held.
-    ensures rejected { result ≡ Status.Rejected → ChecksRejected (F.held files.old) words.now }
+    ensures rejected { result ≡ Status.Rejected → IsRejected (F.held files.old) words.now }
     // Status Usage: the words are those of no command.
     ensures usage { result ≡ Status.Usage → IsNoCommand words.now }
 

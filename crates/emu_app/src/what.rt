@@ -1,9 +1,10 @@
-//! The texts that a command reads.
+//! The texts that commands read.
 
 ghost use Rattle.std.specs.Prelude.{◌<◌, ◌≡◌};
-ghost use Rattle.emu_app.specs.What.{label, limit, order, what_at};
+ghost use Rattle.emu_app.specs.Command.{settle_place, settle_what_at, what_at};
+ghost use Rattle.emu_app.specs.What.{label, limit, order};
 
-/// One of the texts of `check`, in the order in which they are fetched and read.
+/// A text that a command reads, in the order in which texts are fetched and read.
 #[derive(Clone, Copy, Debug, Drop, PartialEq, Eq)]
 pub enum What {
     Design,
@@ -13,32 +14,44 @@ pub enum What {
     Netlist,
     Schedule,
     Map,
-}
-
-/// The number of texts.
-pub const TEXTS: u32 = 7;
-
-/// The text at a place of the order.
-pub fn what_at(place: u32) -> What
-    requires { place < 7 }
-    ensures { result ≡ what_at place }
-{
-    match place {
-        0 => What::Design,
-        1 => What::Cells,
-        2 => What::Groups,
-        3 => What::Board,
-        4 => What::Netlist,
-        5 => What::Schedule,
-        _ => What::Map,
-    }
+    Opening,
+    Events,
 }
 
 impl What {
+    /// The text at a place of the order of all.
+    pub fn at(place: u32) -> What
+        ensures { result ≡ what_at place }
+    {
+        match place {
+            0 => What::Design,
+            1 => What::Cells,
+            2 => What::Groups,
+            3 => What::Board,
+            4 => What::Netlist,
+            5 => What::Schedule,
+            6 => What::Map,
+            7 => What::Opening,
+            _ => What::Events,
+        }
+    }
+
+    /// The text at a place of those that `settle` reads.
+    pub fn settle_at(place: u32) -> What
+        ensures { result ≡ settle_what_at place }
+    {
+        match place {
+            0 => What::Design,
+            1 => What::Cells,
+            2 => What::Groups,
+            3 => What::Opening,
+            _ => What::Events,
+        }
+    }
+
     /// The place of this text in the order in which texts are fetched and read.
     pub fn order(self) -> u64
-        ensures place { result ≡ order self }
-        ensures below { result < 7 }
+        ensures { result ≡ order self }
     {
         match self {
             What::Design => 0,
@@ -48,6 +61,22 @@ impl What {
             What::Netlist => 4,
             What::Schedule => 5,
             What::Map => 6,
+            What::Opening => 7,
+            What::Events => 8,
+        }
+    }
+
+    /// The place of this text among those that `settle` reads; beyond them for one that it does not read.
+    pub fn settle_place(self) -> u64
+        ensures { result ≡ settle_place self }
+    {
+        match self {
+            What::Design => 0,
+            What::Cells => 1,
+            What::Groups => 2,
+            What::Opening => 3,
+            What::Events => 4,
+            What::Board | What::Netlist | What::Schedule | What::Map => 5,
         }
     }
 
@@ -63,6 +92,8 @@ impl What {
             What::Netlist => b"netlist",
             What::Schedule => b"schedule",
             What::Map => b"map",
+            What::Opening => b"opening",
+            What::Events => b"events",
         }
     }
 
@@ -71,8 +102,13 @@ impl What {
         ensures { result ≡ limit self }
     {
         match self {
-            What::Design | What::Cells | What::Groups | What::Board => 67_108_864,
             What::Netlist | What::Schedule | What::Map => 4_294_967_295,
+            What::Design
+            | What::Cells
+            | What::Groups
+            | What::Board
+            | What::Opening
+            | What::Events => 67_108_864,
         }
     }
 }
