@@ -1,23 +1,26 @@
 -- The first text that is refused, from what is known of the texts before it.
 use Rattle.std.proofs.Common.{ℕ, ◌≡◌, ◌<◌, ◌≤◌, ◌^◌, List, length, Result, Ok, Err, refl, sym, subst, arith, lit<}
-use Rattle.design_core.specs.declared.one_gate.OneGate.{OneGate}
+use Rattle.design_core.specs.declared.parts.Parts.{Parts}
+use Rattle.design_core.specs.Dependency.{IsRanked}
 use Rattle.domain_groups.specs.NoGroups.{SaysNoGroups}
-use Rattle.result_files.specs.declared.one_gate_netlist.OneGateNetlist.{OneGateNetlist}
-use Rattle.result_files.specs.declared.one_action_schedule.OneActionSchedule.{OneActionSchedule}
-use Rattle.result_files.specs.declared.two_net_map.TwoNetMap.{TwoNetMap}
-use Rattle.result_files.specs.OneActionSchedule.{SaysSchedule}
-use Rattle.result_files.specs.TwoNetMap.{SaysMap}
+use Rattle.emu_machine.specs.declared.netlist.Chip.{Chip}
+use Rattle.emu_machine.specs.declared.schedule.Schedule.{Schedule}
+use Rattle.result_files.specs.PlainSchedule.{SaysSchedule}
+use Rattle.result_files.specs.PlainMap.{SaysMap}
+use Rattle.result_files.specs.PlainNetlist.{TextsTellChipsApart}
+use Rattle.emu_app.specs.declared.command.Command.{Command}
 use Rattle.emu_app.specs.declared.what.What.{What}
-use Rattle.emu_app.specs.declared.what.What.TheVariants.{Design, Cells, Groups, Board, Netlist, Schedule, Map, Opening, Events}
+use Rattle.emu_app.specs.declared.what.What.TheVariants.{Design, Cells, Groups, Board, Netlist, Schedule as ScheduleText, Map, Opening, Events}
 use Rattle.emu_app.specs.declared.plan_texts.OneChip.{OneChip}
-use Rattle.emu_app.specs.declared.reading.Front.{Front}
 use Rattle.emu_app.specs.declared.refusal.Refusal.TheVariants as refusal
 use Rattle.emu_app.specs.declared.refusal.Unread.{Unread}
 use Rattle.emu_app.specs.declared.refusal.Unread.TheVariants as unread
+use Rattle.emu_app.specs.Command.{Reads}
 use Rattle.emu_app.specs.What.{order, limit}
 use Rattle.emu_app.specs.Fetching.{Texts, AreWithin}
-use Rattle.emu_app.specs.Forms.{HasTree, SaysDesign, SaysBoard, SaysNetlist}
-use Rattle.emu_app.specs.Reading.{AllMean, DesignMeans, FirstUnread, FrontSays, IsRead, Means, NoneSaid}
+use Rattle.emu_app.specs.Forms.{SaysDesign, SaysBoard, SaysNetlist}
+use Rattle.emu_app.specs.Cycles.{RankMeans}
+use Rattle.emu_app.specs.Reading.{AllMean, BoardSays, DesignMeans, EarlierAreRead, FirstUnread, IsRead, Means, NoneSaid, NotYetMeans}
 
 -- a text within its limit is short enough for the lexer
 pub short_text : (texts : Texts) (what : What) (bytes : List ℕ) → bytes ≡ texts what → AreWithin texts → length bytes < 2 ^ 32
@@ -32,109 +35,98 @@ short_text texts what bytes same within =
     small Groups = lit< tt
     small Board = lit< tt
     small Netlist = lit< tt
-    small Schedule = lit< tt
+    small ScheduleText = lit< tt
     small Map = lit< tt
     small Opening = lit< tt
     small Events = lit< tt
 
--- a design that is described has a tree
-tree_of : (top text : List ℕ) (gate : OneGate) → SaysDesign top text gate → HasTree text
-tree_of top text gate says = record { tokens = says.tokens; tree = says.tree; is_tree = says.is_tree }
+-- a text after the design is refused as the first where all before it are read
+first_unread : (command : Command) (top : List ℕ) (texts : Texts) (what : What) → FirstUnread command top texts what → NotYetMeans command top texts what
+first_unread command top texts Design first = absurd (let later : order Design < order Design = first.later in omega (arith, later))
+first_unread command top texts Cells first = first
+first_unread command top texts Groups first = first
+first_unread command top texts Board first = first
+first_unread command top texts Netlist first = first
+first_unread command top texts ScheduleText first = first
+first_unread command top texts Map first = first
+first_unread command top texts Opening first = first
+first_unread command top texts Events first = first
 
--- a text of which the form is asked for alone is refused as the first, where all before it are read
-pub refused_as : {X Y : Type 0} (S : X → Type 0) (T : Y → Type 0) (top : List ℕ) (texts : Texts) (what : What) (why : Unread)
-    → Means what S (Err why) → (NoneSaid S → FirstUnread top texts what) → AllMean top texts T (Err why)
-refused_as S T top texts what (unread.Refused (refusal.NotYet other)) means first = subst (FirstUnread top texts) (sym means.0) (first means.1)
-refused_as S T top texts what (unread.Refused (refusal.Faulty fault)) means first = absurd means
-refused_as S T top texts what unread.NoMemory means first = tt
+pub refused_as : {X Y : Type 0} (S : X → Type 0) (T : Y → Type 0) (command : Command) (top : List ℕ) (texts : Texts) (what : What) (why : Unread)
+    → Means what S (Err why) → order Design < order what → (NoneSaid S → IsRead top texts what → ⊥) → EarlierAreRead command top texts what → AllMean command top texts T (Err why)
+refused_as S T command top texts what (unread.Refused (refusal.NotYet other)) means later none earlier =
+    subst (NotYetMeans command top texts) (sym means.0) (first_unread command top texts what (record { later = later; here = none means.1; earlier = earlier }))
+refused_as S T command top texts what (unread.Refused (refusal.Faulty fault)) means later none earlier = absurd means
+refused_as S T command top texts what (unread.Refused (refusal.Cycle names)) means later none earlier = absurd means
+refused_as S T command top texts what unread.NoMemory means later none earlier = tt
 
 -- the design is the first text, and has faults of its own
-pub refused_design : {Y : Type 0} (T : Y → Type 0) (top : List ℕ) (texts : Texts) (why : Unread) → DesignMeans top (texts Design) (Err why) → AllMean top texts T (Err why)
-refused_design T top texts (unread.Refused (refusal.Faulty fault)) means = means
-refused_design T top texts (unread.Refused (refusal.NotYet what)) means = subst (FirstUnread top texts) (sym means.0) (record { parsed = means.1; here = λ (gate, says). means.2 gate says; earlier = before })
-  where
-    before : (other : What) → order other < order Design → IsRead top texts other
-    before Design early = absurd (omega (arith, early))
-    before Cells early = tt
-    before Groups early = absurd (omega (arith, early))
-    before Board early = absurd (omega (arith, early))
-    before Netlist early = absurd (omega (arith, early))
-    before Schedule early = absurd (omega (arith, early))
-    before Map early = absurd (omega (arith, early))
-    before Opening early = absurd (omega (arith, early))
-    before Events early = absurd (omega (arith, early))
-refused_design T top texts unread.NoMemory means = tt
+pub refused_design : {Y : Type 0} (T : Y → Type 0) (command : Command) (top : List ℕ) (texts : Texts) (why : Unread) → DesignMeans top (texts Design) (Err why) → AllMean command top texts T (Err why)
+refused_design T command top texts (unread.Refused (refusal.Faulty fault)) means = means
+refused_design T command top texts (unread.Refused (refusal.Cycle names)) means = absurd means
+refused_design T command top texts (unread.Refused (refusal.NotYet what)) means = subst (NotYetMeans command top texts) (sym means.0) (record { parsed = means.1; none = means.2 })
+refused_design T command top texts unread.NoMemory means = tt
 
-pub unread_groups : (top : List ℕ) (texts : Texts) (gate : OneGate) → SaysDesign top (texts Design) gate → (SaysNoGroups (texts Groups) → ⊥) → FirstUnread top texts Groups
-unread_groups top texts gate design never = record { parsed = tree_of top (texts Design) gate design; here = never; earlier = before }
-  where
-    before : (other : What) → order other < order Groups → IsRead top texts other
-    before Design early = (gate, design)
-    before Cells early = tt
-    before Groups early = absurd (omega (arith, early))
-    before Board early = absurd (omega (arith, early))
-    before Netlist early = absurd (omega (arith, early))
-    before Schedule early = absurd (omega (arith, early))
-    before Map early = absurd (omega (arith, early))
-    before Opening early = absurd (omega (arith, early))
-    before Events early = absurd (omega (arith, early))
+-- a design that goes in a circle is refused
+pub refused_rank : {Y : Type 0} (T : Y → Type 0) (command : Command) (top : List ℕ) (texts : Texts) (p : Parts) (why : Unread) → SaysDesign top (texts Design) p → RankMeans p (Err why) → AllMean command top texts T (Err why)
+refused_rank T command top texts p (unread.Refused (refusal.Faulty fault)) says means = absurd means
+refused_rank T command top texts p (unread.Refused (refusal.Cycle names)) says means = record { design = p; says = says; cycle = means }
+refused_rank T command top texts p (unread.Refused (refusal.NotYet what)) says means = absurd means
+refused_rank T command top texts p unread.NoMemory says means = tt
 
-pub unread_board : (top : List ℕ) (texts : Texts) (gate : OneGate) → SaysDesign top (texts Design) gate → SaysNoGroups (texts Groups) → NoneSaid (SaysBoard (texts Board)) → FirstUnread top texts Board
-unread_board top texts gate design groups never = record { parsed = tree_of top (texts Design) gate design; here = λ (chip, says). never chip says; earlier = before }
-  where
-    before : (other : What) → order other < order Board → IsRead top texts other
-    before Design early = (gate, design)
-    before Cells early = tt
-    before Groups early = groups
-    before Board early = absurd (omega (arith, early))
-    before Netlist early = absurd (omega (arith, early))
-    before Schedule early = absurd (omega (arith, early))
-    before Map early = absurd (omega (arith, early))
-    before Opening early = absurd (omega (arith, early))
-    before Events early = absurd (omega (arith, early))
+module _ (command : Command) (top : List ℕ) (texts : Texts) (p : Parts) (design : SaysDesign top (texts Design) p) (ranked : IsRanked p) where
+  pub before_groups : EarlierAreRead command top texts Groups
+  before_groups Design reads early = (p, design, ranked)
+  before_groups Cells reads early = tt
+  before_groups Groups reads early = absurd (omega (arith, early))
+  before_groups Board reads early = absurd (omega (arith, early))
+  before_groups Netlist reads early = absurd (omega (arith, early))
+  before_groups ScheduleText reads early = absurd (omega (arith, early))
+  before_groups Map reads early = absurd (omega (arith, early))
+  before_groups Opening reads early = absurd (omega (arith, early))
+  before_groups Events reads early = absurd (omega (arith, early))
 
-pub unread_netlist : (top : List ℕ) (texts : Texts) (front : Front) → FrontSays top texts front → NoneSaid (SaysNetlist (texts Netlist)) → FirstUnread top texts Netlist
-unread_netlist top texts front says never = record { parsed = tree_of top (texts Design) front.design says.design; here = λ (netlist, writes). never netlist writes; earlier = before }
-  where
-    before : (other : What) → order other < order Netlist → IsRead top texts other
-    before Design early = (front.design, says.design)
-    before Cells early = tt
-    before Groups early = says.groups
-    before Board early = (front.chip, says.board)
-    before Netlist early = absurd (omega (arith, early))
-    before Schedule early = absurd (omega (arith, early))
-    before Map early = absurd (omega (arith, early))
-    before Opening early = absurd (omega (arith, early))
-    before Events early = absurd (omega (arith, early))
+  pub before_board : SaysNoGroups (texts Groups) → EarlierAreRead command top texts Board
+  before_board groups Design reads early = (p, design, ranked)
+  before_board groups Cells reads early = tt
+  before_board groups Groups reads early = groups
+  before_board groups Board reads early = absurd (omega (arith, early))
+  before_board groups Netlist reads early = absurd (omega (arith, early))
+  before_board groups ScheduleText reads early = absurd (omega (arith, early))
+  before_board groups Map reads early = absurd (omega (arith, early))
+  before_board groups Opening reads early = absurd (omega (arith, early))
+  before_board groups Events reads early = absurd (omega (arith, early))
 
-pub unread_schedule : (top : List ℕ) (texts : Texts) (front : Front) (netlist : OneGateNetlist) → FrontSays top texts front → SaysNetlist (texts Netlist) netlist → NoneSaid (SaysSchedule (texts Schedule))
-    → FirstUnread top texts Schedule
-unread_schedule top texts front netlist says writes never =
-    record { parsed = tree_of top (texts Design) front.design says.design; here = λ (schedule, s). never schedule s; earlier = before }
-  where
-    before : (other : What) → order other < order Schedule → IsRead top texts other
-    before Design early = (front.design, says.design)
-    before Cells early = tt
-    before Groups early = says.groups
-    before Board early = (front.chip, says.board)
-    before Netlist early = (netlist, writes)
-    before Schedule early = absurd (omega (arith, early))
-    before Map early = absurd (omega (arith, early))
-    before Opening early = absurd (omega (arith, early))
-    before Events early = absurd (omega (arith, early))
+module _ (command : Command) (top : List ℕ) (texts : Texts) (p : Parts) (one : OneChip) (board : BoardSays top texts p one) where
+  pub before_netlist : EarlierAreRead command top texts Netlist
+  before_netlist Design reads early = (p, board.design, board.ranked)
+  before_netlist Cells reads early = tt
+  before_netlist Groups reads early = board.groups
+  before_netlist Board reads early = (one, board.board)
+  before_netlist Netlist reads early = absurd (omega (arith, early))
+  before_netlist ScheduleText reads early = absurd (omega (arith, early))
+  before_netlist Map reads early = absurd (omega (arith, early))
+  before_netlist Opening reads early = absurd (omega (arith, early))
+  before_netlist Events reads early = absurd (omega (arith, early))
 
-pub unread_map : (top : List ℕ) (texts : Texts) (front : Front) (netlist : OneGateNetlist) (schedule : OneActionSchedule) → FrontSays top texts front → SaysNetlist (texts Netlist) netlist → SaysSchedule (texts Schedule) schedule
-    → NoneSaid (SaysMap (texts Map)) → FirstUnread top texts Map
-unread_map top texts front netlist schedule says writes plans never =
-    record { parsed = tree_of top (texts Design) front.design says.design; here = λ (map, s). never map s; earlier = before }
-  where
-    before : (other : What) → order other < order Map → IsRead top texts other
-    before Design early = (front.design, says.design)
-    before Cells early = tt
-    before Groups early = says.groups
-    before Board early = (front.chip, says.board)
-    before Netlist early = (netlist, writes)
-    before Schedule early = (schedule, plans)
-    before Map early = absurd (omega (arith, early))
-    before Opening early = absurd (omega (arith, early))
-    before Events early = absurd (omega (arith, early))
+  pub before_schedule : (chip : Chip) → SaysNetlist (texts Netlist) chip → EarlierAreRead command top texts ScheduleText
+  before_schedule chip netlist Design reads early = (p, board.design, board.ranked)
+  before_schedule chip netlist Cells reads early = tt
+  before_schedule chip netlist Groups reads early = board.groups
+  before_schedule chip netlist Board reads early = (one, board.board)
+  before_schedule chip netlist Netlist reads early = (chip, netlist)
+  before_schedule chip netlist ScheduleText reads early = absurd (omega (arith, early))
+  before_schedule chip netlist Map reads early = absurd (omega (arith, early))
+  before_schedule chip netlist Opening reads early = absurd (omega (arith, early))
+  before_schedule chip netlist Events reads early = absurd (omega (arith, early))
+
+  pub before_map : (chip : Chip) (schedule : Schedule) → SaysNetlist (texts Netlist) chip → SaysSchedule (texts ScheduleText) schedule → EarlierAreRead command top texts Map
+  before_map chip schedule netlist says Design reads early = (p, board.design, board.ranked)
+  before_map chip schedule netlist says Cells reads early = tt
+  before_map chip schedule netlist says Groups reads early = board.groups
+  before_map chip schedule netlist says Board reads early = (one, board.board)
+  before_map chip schedule netlist says Netlist reads early = (chip, netlist)
+  before_map chip schedule netlist says ScheduleText reads early = (schedule, says)
+  before_map chip schedule netlist says Map reads early = absurd (omega (arith, early))
+  before_map chip schedule netlist says Opening reads early = absurd (omega (arith, early))
+  before_map chip schedule netlist says Events reads early = absurd (omega (arith, early))

@@ -11,13 +11,16 @@ use Rattle.verilog_tree.specs.declared.parser.ParseFault.TheVariants as parse
 use Rattle.verilog_tree.specs.declared.source.Source.{Source}
 use Rattle.verilog_tree.specs.Source.{Explains}
 use Rattle.verilog_tree.specs.Terminal.{terminal_at}
-use Rattle.design_core.specs.declared.one_gate.OneGate.{OneGate}
-use Rattle.elaborator.specs.OneGateText.{IsOneGateText}
+use Rattle.verilog_tree.specs.Laws.{HasOneTree}
+use Rattle.verilog_tree.specs.Source.{dives}
+use Rattle.verilog_tree.specs.Grammar.{IsSource}
+use Rattle.design_core.specs.declared.parts.Parts.{Parts}
+use Rattle.elaborator.specs.GateDesign.{Describes}
 use Rattle.board_model.specs.declared.fault.BoardFault.{BoardFault}
 use Rattle.board_model.specs.declared.fault.BoardFault.TheVariants as board
 use Rattle.board_model.specs.Answers as boards
-use Rattle.result_files.specs.declared.one_gate_netlist.OneGateNetlist.{OneGateNetlist}
-use Rattle.result_files.specs.OneGateNetlist.{IsOneGateNetlist}
+use Rattle.emu_machine.specs.declared.netlist.Chip.{Chip}
+use Rattle.result_files.specs.PlainNetlist.{SaysChip}
 use Rattle.emu_app.specs.declared.plan_texts.OneChip.{OneChip}
 use Rattle.emu_app.specs.declared.refusal.Refusal.TheVariants as refusal
 use Rattle.emu_app.specs.declared.refusal.Unread.{Unread}
@@ -85,24 +88,34 @@ parse_means text tokens parse.NoMemory are explains = tt
 -- a text without a tree describes no design, and is refused by the same fault
 pub design_refused : (top text : List ℕ) (why : Unread) → TreeMeans text (Err why) → DesignMeans top text (Err why)
 design_refused top text (unread.Refused (refusal.Faulty fault)) means = means
+design_refused top text (unread.Refused (refusal.Cycle names)) means = absurd means
 design_refused top text (unread.Refused (refusal.NotYet what)) means = absurd means
 design_refused top text unread.NoMemory means = tt
 
--- where the tokens describe no design, the text describes none
-no_design : (top text : List ℕ) (tokens : List Token) → Alone text tokens → ((gate : OneGate) → IsOneGateText text tokens top gate → ⊥) → NoneSaid (SaysDesign top text)
-no_design top text tokens alone never gate says =
-    never gate (subst (λ ts. IsOneGateText text ts top gate) (alone says.tokens says.is_tree.are_tokens) says.describes)
+-- a text has one list of tokens and one tree
+pub one_tree : reading.EachTextHasOneAnswer → HasOneTree → (text : List ℕ) (tokens others : List Token) (tree other : Source)
+    → IsTreeOf text tokens tree → IsTreeOf text others other → (others ≡ tokens) × (other ≡ tree)
+one_tree law trees text tokens others tree other is also =
+    let same : others ≡ tokens = tokens_once law text tokens is.are_tokens others also.are_tokens in
+    let there : IsSource (map terminal_at tokens) other = subst (λ ts. IsSource (map terminal_at ts) other) same also.explains.0 in
+    (same, trees (map terminal_at tokens) other tree there is.explains.0)
+
+-- where the tree describes no design, the text describes none
+no_design : reading.EachTextHasOneAnswer → HasOneTree → (top text : List ℕ) (tokens : List Token) (tree : Source) → IsTreeOf text tokens tree → ((p : Parts) → Describes text tokens tree top p → ⊥) → NoneSaid (SaysDesign top text)
+no_design law trees top text tokens tree is never p says =
+    let same : (says.tokens ≡ tokens) × (says.tree ≡ tree) = one_tree law trees text tokens says.tokens tree says.tree is says.is_tree in
+    never p (subst (λ t. Describes text tokens t top p) same.1 (subst (λ ts. Describes text ts says.tree top p) same.0 says.describes))
 
 -- a tree that describes no design is not of the form
-pub design_not_yet : reading.EachTextHasOneAnswer → (top text : List ℕ) (tokens : List Token) (tree : Source) → IsTreeOf text tokens tree → ((gate : OneGate) → IsOneGateText text tokens top gate → ⊥)
+pub design_not_yet : reading.EachTextHasOneAnswer → HasOneTree → (top text : List ℕ) (tokens : List Token) (tree : Source) → IsTreeOf text tokens tree → ((p : Parts) → Describes text tokens tree top p → ⊥)
     → DesignMeans top text (Err (unread.Refused (refusal.NotYet Design)))
-design_not_yet law top text tokens tree is never =
-    (refl, record { tokens = tokens; tree = tree; is_tree = is }, no_design top text tokens (tokens_once law text tokens is.are_tokens) never)
+design_not_yet law trees top text tokens tree is never =
+    (refl, record { tokens = tokens; tree = tree; is_tree = is }, no_design law trees top text tokens tree is never)
 
 -- where the tokens write down no netlist, the text writes down none
-pub no_netlist : reading.EachTextHasOneAnswer → (text : List ℕ) (tokens : List Token) → AreTokens text tokens → ((netlist : OneGateNetlist) → IsOneGateNetlist text tokens netlist → ⊥) → NoneSaid (SaysNetlist text)
+pub no_netlist : reading.EachTextHasOneAnswer → (text : List ℕ) (tokens : List Token) → AreTokens text tokens → ((netlist : Chip) → SaysChip text tokens netlist → ⊥) → NoneSaid (SaysNetlist text)
 no_netlist law text tokens are never netlist says =
-    never netlist (subst (λ ts. IsOneGateNetlist text ts netlist) (tokens_once law text tokens are says.tokens says.are_tokens) says.writes)
+    never netlist (subst (λ ts. SaysChip text ts netlist) (tokens_once law text tokens are says.tokens says.are_tokens) says.writes)
 
 -- a text without tokens writes down no netlist
 pub no_netlist_tokens : reading.EachTextHasOneAnswer → (text : List ℕ) (fault : LexFault) → reading.Answers text (Err fault) → (fault ≡ lex.NoMemory → ⊥) → NoneSaid (SaysNetlist text)

@@ -4,6 +4,7 @@ use Rattle.std.specs.Prelude.{◌≡◌, ◌≤◌, ℕ, List, length, take, Opt
 use Rattle.emu_io.specs.Files.{Held}
 use Rattle.emu_io.specs.Faults.{Rose}
 use Rattle.emu_io.specs.Sink.{AppendsWhereTold}
+use Rattle.emu_machine.specs.declared.schedule.Schedule.{Schedule}
 use Rattle.emu_machine.specs.Acceptance.{Case, IsAccepted}
 use Rattle.emu_machine.specs.Headline.{Headline}
 use Rattle.emu_app.specs.declared.answer.Answer.{Answer}
@@ -15,17 +16,17 @@ use Rattle.emu_app.specs.declared.status.Status.{Status}
 use Rattle.emu_app.specs.declared.status.Status.TheVariants as status
 use Rattle.emu_app.specs.Command.{CommandWords, IsCommand, IsNoCommand, name_of}
 use Rattle.emu_app.specs.Fetching.{Texts, AreHeld, ReadFails, FirstTooLarge}
-use Rattle.emu_app.specs.Printing.{accepted_text, text_of, status_of}
+use Rattle.emu_app.specs.Printing.{text_of, status_of}
 use Rattle.emu_app.specs.Reading.{StandForOne, Refuses}
 
 -- The texts stand for one case, and the rules A1 to A12 hold for it: then the machine agrees with the
--- design after every event, for every opening and every list of events. The text lists its frames.
-pub record Accepts (top : List ℕ) (texts : Texts) (printed : List ℕ) : Type 0 where
+-- design after every event, for every opening and every list of events. The schedule is that of the case.
+pub record Accepts (top : List ℕ) (texts : Texts) (schedule : Schedule) : Type 0 where
   pub judged : Case
   pub stand : StandForOne top texts judged
   pub accepted : IsAccepted judged
   pub headline : Headline judged
-  pub prints : accepted_text judged.results.schedule.frames ≡ printed
+  pub shown : judged.results.schedule ≡ schedule
 
 -- the texts stand for one case, and one of the rules A1 to A12 fails for it
 pub record Rejects (top : List ℕ) (texts : Texts) : Type 0 where
@@ -35,9 +36,9 @@ pub record Rejects (top : List ℕ) (texts : Texts) : Type 0 where
 
 -- what judging the texts comes to; it is no matter of other answers
 abbrev pub JudgeMeans : List ℕ → Texts → Answer → Type 0
-JudgeMeans top texts (answer.Accepted group) = Accepts top texts (text_of (answer.Accepted group))
+JudgeMeans top texts (answer.Accepted schedule) = Accepts top texts schedule
 JudgeMeans top texts answer.Rejected = Rejects top texts
-JudgeMeans top texts (answer.Refused why) = Refuses top texts why
+JudgeMeans top texts (answer.Refused why) = Refuses Check top texts why
 JudgeMeans top texts other = ⊥
 
 -- what the command makes of the texts

@@ -1,16 +1,16 @@
 -- The forms of texts that are read so far.
 -- The rules are told in docs/FORMATS.md, "The design", "The board" and "The netlist".
-use Rattle.std.specs.Prelude.{ℕ, true, List, [], ◌∷◌, Ok, map}
+use Rattle.std.specs.Prelude.{◌<◌, ◌^◌, ℕ, true, List, [], ◌∷◌, Ok, length, map}
 use Rattle.verilog_lex.specs.declared.token.Token.{Token}
 use Rattle.verilog_lex.specs.Reads.{Reads}
 use Rattle.verilog_tree.specs.declared.source.Source.{Source}
 use Rattle.verilog_tree.specs.Source.{Explains}
 use Rattle.verilog_tree.specs.Terminal.{terminal_at}
-use Rattle.design_core.specs.declared.one_gate.OneGate.{OneGate}
-use Rattle.elaborator.specs.OneGateText.{IsOneGateText}
+use Rattle.design_core.specs.declared.parts.Parts.{Parts}
+use Rattle.elaborator.specs.GateDesign.{Describes}
 use Rattle.board_model.specs.Answers.{StandsFor}
-use Rattle.result_files.specs.declared.one_gate_netlist.OneGateNetlist.{OneGateNetlist}
-use Rattle.result_files.specs.OneGateNetlist.{IsOneGateNetlist}
+use Rattle.emu_machine.specs.declared.netlist.Chip.{Chip}
+use Rattle.result_files.specs.PlainNetlist.{SaysChip}
 use Rattle.emu_app.specs.declared.plan_texts.OneChip.{OneChip}
 
 -- the tokens of a text
@@ -28,19 +28,20 @@ pub record HasTree (text : List ℕ) : Type 0 where
   pub tree : Source
   pub is_tree : IsTreeOf text tokens tree
 
--- a text describes a design of one gate whose top has this name
-pub record SaysDesign (top text : List ℕ) (gate : OneGate) : Type 0 where
+-- a text describes a design whose top has this name
+pub record SaysDesign (top text : List ℕ) (p : Parts) : Type 0 where
   pub tokens : List Token
   pub tree : Source
   pub is_tree : IsTreeOf text tokens tree
-  pub describes : IsOneGateText text tokens top gate
+  pub describes : Describes text tokens tree top p
 
 -- a text describes a board of one chip with this room, no wire, and at most so many slots
 abbrev pub SaysBoard : List ℕ → OneChip → Type 0
 SaysBoard text chip = StandsFor text (record { rooms = chip.room ∷ []; wires = []; slots = chip.slots })
 
--- a text writes down a netlist of one gate
-pub record SaysNetlist (text : List ℕ) (netlist : OneGateNetlist) : Type 0 where
+-- a text writes down the netlist of one chip; its tokens are no more than its bytes may be
+pub record SaysNetlist (text : List ℕ) (chip : Chip) : Type 0 where
   pub tokens : List Token
   pub are_tokens : AreTokens text tokens
-  pub writes : IsOneGateNetlist text tokens netlist
+  pub few : length tokens < 2 ^ 32
+  pub writes : SaysChip text tokens chip

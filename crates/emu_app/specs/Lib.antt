@@ -3,6 +3,7 @@ pub mod Command
 pub mod Fetching
 pub mod Forms
 pub mod Faults
+pub mod Cycles
 pub mod Printing
 pub mod Reading
 pub mod Answers

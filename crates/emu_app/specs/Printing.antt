@@ -25,10 +25,6 @@ frame_line frame = line (codes "frame " ++ frame.group ++ codes " " ++ decimal (
 abbrev pub accepted_text : List Frame → List ℕ
 accepted_text frames = line (codes "accepted") ++ flat_map frame_line frames
 
--- the same for one frame of one slot
-abbrev pub accepted_text_of : List ℕ → List ℕ
-accepted_text_of group = line (codes "accepted") ++ line (codes "frame " ++ group ++ codes " 1")
-
 -- the name of a fault, with a space after it
 abbrev pub fault_name : TextFault → List ℕ
 fault_name BadByte = codes "BadByte "
@@ -45,14 +41,19 @@ fault_name TooDeep = codes "TooDeep "
 abbrev pub fault_text_of : Fault → List ℕ
 fault_text_of fault = line (codes "refused design " ++ fault_name fault.kind ++ decimal fault.at)
 
+-- `refused rank Cycle NAME ..`
+abbrev pub cycle_text : List (List ℕ) → List ℕ
+cycle_text names = line (codes "refused rank Cycle" ++ flat_map (λ name. codes " " ++ name) names)
+
 -- the text of a refusal
 abbrev pub refusal_text : Refusal → List ℕ
 refusal_text (refusal.Faulty fault) = fault_text_of fault
+refusal_text (refusal.Cycle names) = cycle_text names
 refusal_text (refusal.NotYet what) = line (codes "refused " ++ label what ++ codes " NotYet")
 
 abbrev pub text_of : Answer → List ℕ
 text_of answer.Usage = line (codes "usage: emu check|compile|make|replay|settle")
-text_of (answer.Accepted group) = accepted_text_of group
+text_of (answer.Accepted schedule) = accepted_text schedule.frames
 text_of answer.Rejected = line (codes "rejected")
 text_of (answer.TooLarge what) = line (codes "refused " ++ label what ++ codes " TooLarge")
 text_of (answer.Refused why) = refusal_text why
@@ -60,7 +61,7 @@ text_of (answer.ReadFault name) = line (codes "read fault " ++ name)
 
 abbrev pub status_of : Answer → Status
 status_of answer.Usage = status.Usage
-status_of (answer.Accepted group) = status.Ok
+status_of (answer.Accepted schedule) = status.Ok
 status_of answer.Rejected = status.Rejected
 status_of (answer.TooLarge what) = status.Refused
 status_of (answer.Refused why) = status.Refused

@@ -1,12 +1,13 @@
 //! What a command answers: a status and a text.
 
 ghost use Rattle.std.specs.Prelude.{◌++◌, ◌≡◌, IfOk, OnErr, OnOk};
-ghost use Rattle.emu_app.specs.Printing.{accepted_text_of, fault_name, fault_text_of, line, status_of, text_of};
+ghost use Rattle.emu_app.specs.Printing.{accepted_text, cycle_text, fault_name, fault_text_of, frame_line, line, status_of, text_of};
 
 use crate::refusal::{Fault, Refusal, TextFault};
 use crate::status::Status;
 use crate::what::What;
 use emu_io::{NoMemory, Text};
+use emu_machine::{Frame, Schedule};
 use itoa::Buffer;
 use std::alloc::Global;
 
@@ -15,8 +16,8 @@ use std::alloc::Global;
 pub enum Answer {
     /// The words are those of no command.
     Usage,
-    /// The results are accepted; the one frame, of one slot, is that of this group.
-    Accepted { group: Text },
+    /// The results are accepted, with this schedule.
+    Accepted { schedule: Schedule },
     /// A rule of acceptance fails.
     Rejected,
     /// This text is longer than its limit.
@@ -52,10 +53,11 @@ impl Answer {
                 b"",
                 b"",
             ),
-            Answer::Accepted { group } => accepted_text(alloc, group.bytes()),
+            Answer::Accepted { schedule } => accepted_text(alloc, schedule.frames.as_slice()),
             Answer::Rejected => line(alloc, b"rejected", b"", b""),
             Answer::TooLarge(what) => line(alloc, b"refused ", what.label(), b" TooLarge"),
             Answer::Refused(Refusal::Faulty(fault)) => fault_text(alloc, fault),
+            Answer::Refused(Refusal::Cycle(names)) => cycle_text(alloc, names.as_slice()),
             Answer::Refused(Refusal::NotYet(what)) => {
                 line(alloc, b"refused ", what.label(), b" NotYet")
             }
@@ -84,13 +86,40 @@ fn line(alloc: Global, first: &[u8], second: &[u8], third: &[u8]) -> Result<Vec<
     Ok(text)
 }
 
-/// The line that says `accepted`, and the line of the one frame.
-fn accepted_text(alloc: Global, group: &[u8]) -> Result<Vec<u8>, NoMemory>
-    ensures { IfOk result (λ text. text.items ≡ accepted_text_of group.now) }
+/// The line that says `accepted`, and a line for each frame.
+fn accepted_text(alloc: Global, frames: &[Frame]) -> Result<Vec<u8>, NoMemory>
+    ensures { IfOk result (λ text. text.items ≡ accepted_text frames.now) }
 {
     let mut text = line(alloc, b"accepted", b"", b"")?;
-    let frame = line(alloc, b"frame ", group, b" 1")?;
-    append(&mut text, frame.as_slice())?;
+    'frames: for frame in frames {
+        append_frame(&mut text, frame)?;
+    }
+    Ok(text)
+}
+
+/// Puts the line of a frame at the end.
+fn append_frame(text: &mut Vec<u8>, frame: &Frame) -> Result<(), NoMemory>
+    ensures ok { OnOk result (text.new.items ≡ text.old.items ++ frame_line frame.now) }
+{
+    let mut buffer = Buffer::new();
+    append(text, b"frame ")?;
+    append(text, frame.group.bytes())?;
+    append(text, b" ")?;
+    append(text, buffer.format(frame.slots.len()).as_bytes())?;
+    append(text, b"\n")
+}
+
+/// The line of a circle.
+fn cycle_text(alloc: Global, names: &[Text]) -> Result<Vec<u8>, NoMemory>
+    ensures { IfOk result (λ text. text.items ≡ cycle_text names.now) }
+{
+    let mut text = Vec::new(alloc);
+    append(&mut text, b"refused rank Cycle")?;
+    'names: for name in names {
+        append(&mut text, b" ")?;
+        append(&mut text, name.bytes())?;
+    }
+    append(&mut text, b"\n")?;
     Ok(text)
 }
 

@@ -1,20 +1,27 @@
 //! The command `check`: judges results.
 
-ghost use Rattle.std.specs.Prelude.{◌≡◌, ◌<◌, IfOk, length};
+ghost use Rattle.std.specs.Prelude.{◌≡◌, IfOk, length};
+ghost use Rattle.design_core.specs.Dependency.{IsRanked};
+ghost use Rattle.design_core.specs.Plain.{IsPlain};
+ghost use Rattle.emu_machine.specs.Law.{MapFits};
+ghost use Rattle.emu_machine.specs.Netlist.{IsNetlist};
+ghost use Rattle.emu_machine.specs.Plain.{IsPlainResults};
 ghost use Rattle.emu_app.specs.Answers.{JudgeMeans};
 ghost use Rattle.emu_app.specs.Cases.{JudgesAll};
 ghost use Rattle.emu_app.specs.Command.{text_count};
-ghost use Rattle.emu_app.specs.declared.command.Command.{Command};
 ghost use Rattle.emu_app.specs.Fetching.{AreWithin, texts_of};
 ghost use Rattle.emu_app.specs.Reading.{AllMean, TextsTellCasesApart};
 
 use crate::answer::Answer;
 use crate::command::Command;
-use crate::reading::{Front, read_front, read_results};
+use crate::plan_texts::OneChip;
+use crate::reading::{read_board_texts, read_first, read_results};
 use crate::refusal::Unread;
+use accepted_law::acceptance::accepted_agrees;
+use design_core::Design;
 use emu_io::{List, NoMemory, Text};
-use emu_machine::OneAction;
-use schedule_check::{accepted_agrees, is_accepted};
+use emu_machine::Results;
+use schedule_check::{Verdict, judge};
 use std::alloc::Global;
 
 /// Reads the texts and judges the case that they stand for.
@@ -34,26 +41,37 @@ pub fn judge_texts(alloc: Global, top: &[u8], texts: &List<Text>) -> Result<Answ
 fn judge_read(alloc: Global, top: &[u8], texts: &List<Text>) -> Result<Answer, Unread>
     requires count { length texts.now ≡ text_count Command.Check }
     requires within { AreWithin (texts_of Command.Check texts.now) }
-    ensures { AllMean top.now (texts_of Command.Check texts.now) (JudgeMeans top.now (texts_of Command.Check texts.now)) result }
+    ensures { AllMean Command.Check top.now (texts_of Command.Check texts.now) (JudgeMeans top.now (texts_of Command.Check texts.now)) result }
 {
     texts_tell_cases_apart();
-    let front = read_front(alloc, top, texts)?;
-    let results = read_results(alloc, top, texts, &front)?;
-    Ok(judge_case(&front, results))
+    elaborator::gate_designs_are_plain();
+    let design = read_first(alloc, Command::Check, top, texts)?;
+    let chip = read_board_texts(alloc, Command::Check, top, texts, &design)?;
+    let results = read_results(alloc, Command::Check, top, texts, &design, chip)?;
+    Ok(judge_case(alloc, &design, chip, results)?)
 }
 
 /// The verdict on a case.
-fn judge_case(front: &Front, results: OneAction) -> Answer
-    requires { 0 < front.now.chip.slots }
-    ensures { JudgesAll front.now results result }
+fn judge_case(
+    alloc: Global,
+    design: &Design,
+    chip: OneChip,
+    results: Results,
+) -> Result<Answer, NoMemory>
+    requires plain { IsPlain design.now }
+    requires ranked { IsRanked design.now }
+    requires results { IsPlainResults results }
+    requires mapped { MapFits results }
+    requires netlist { IsNetlist results.net }
+    ensures { IfOk result (JudgesAll design.now chip results) }
 {
     accepted_agrees();
-    if is_accepted(&front.design, front.chip.room, front.chip.slots, &results) {
-        Answer::Accepted {
-            group: results.group,
-        }
-    } else {
-        Answer::Rejected
+    design.stands();
+    match judge(alloc, design, chip.room, chip.slots, &results)? {
+        Verdict::Accepted => Ok(Answer::Accepted {
+            schedule: results.schedule,
+        }),
+        Verdict::Rejected { .. } => Ok(Answer::Rejected),
     }
 }
 
@@ -62,9 +80,10 @@ fn texts_tell_cases_apart()
     ensures { TextsTellCasesApart }
 {
     verilog_lex::each_text_has_one_answer();
-    elaborator::one_gate_texts_are_told_apart();
+    verilog_tree::has_one_tree();
+    elaborator::trees_tell_designs_apart();
     board_model::each_text_has_one_answer();
-    result_files::one_gate_netlists_are_told_apart();
-    result_files::one_action_schedules_are_told_apart();
-    result_files::two_net_maps_are_told_apart();
+    result_files::plain_netlists_are_told_apart();
+    result_files::plain_schedules_are_told_apart();
+    result_files::plain_maps_are_told_apart();
 }

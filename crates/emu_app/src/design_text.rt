@@ -7,8 +7,8 @@ ghost use Rattle.emu_app.specs.Reading.{DesignMeans, TreeMeans};
 
 use crate::refusal::{Fault, Refusal, TextFault, Unread};
 use crate::what::What;
-use design_core::OneGate;
-use elaborator::{ElabFault, read_one_gate};
+use design_core::Design;
+use elaborator::{ElabFault, read_gates};
 use std::alloc::Global;
 use verilog_lex::{LexFault, Tokens, tokens};
 use verilog_tree::{ParseFault, Source, parse};
@@ -92,14 +92,15 @@ pub fn read_tree(alloc: Global, text: &[u8]) -> Result<Parsed, Unread>
 }
 
 /// The design that a text describes, or why it describes none.
-pub fn read_design(alloc: Global, top: &[u8], text: &[u8]) -> Result<OneGate, Unread>
+pub fn read_design(alloc: Global, top: &[u8], text: &[u8]) -> Result<Design, Unread>
     requires { length text.now < 2 ^ 32 }
     ensures { DesignMeans top.now text.now result }
 {
     verilog_lex::each_text_has_one_answer();
+    verilog_tree::has_one_tree();
     let parsed = read_tree(alloc, text)?;
-    match read_one_gate(alloc, text, &parsed.tokens, top) {
-        Ok(gate) => Ok(gate),
+    match read_gates(alloc, text, &parsed.tokens, &parsed.tree, top) {
+        Ok(design) => Ok(design),
         Err(ElabFault::NotYet) => Err(Unread::Refused(Refusal::NotYet(What::Design))),
         Err(ElabFault::NoMemory) => Err(Unread::NoMemory),
     }

@@ -12,6 +12,7 @@ mod command;
 mod design_text;
 mod fetch;
 mod plan_texts;
+mod ranking;
 mod reading;
 mod refusal;
 mod result_texts;

@@ -1,28 +1,23 @@
 //! Reading the texts of a command, in their order; the first that is refused decides.
 
 ghost use Rattle.std.specs.Prelude.{◌<◌, ◌≡◌, IfOk, length};
+ghost use Rattle.emu_machine.specs.Plain.{IsPlainResults};
 ghost use Rattle.emu_app.specs.Command.{Reads, text_count};
 ghost use Rattle.emu_app.specs.Fetching.{AreWithin, texts_of};
-ghost use Rattle.emu_app.specs.Reading.{AllMean, FrontSays, ResultsSay, results_of};
+ghost use Rattle.emu_app.specs.Forms.{SaysDesign};
+ghost use Rattle.emu_app.specs.Reading.{AllMean, BoardSays, ResultsSay};
 
 use crate::command::Command;
 use crate::design_text::read_design;
 use crate::plan_texts::{OneChip, read_groups, read_one_chip};
+use crate::ranking::rank_design;
 use crate::refusal::Unread;
 use crate::result_texts::{read_map, read_netlist, read_schedule};
 use crate::what::What;
-use design_core::OneGate;
+use design_core::Design;
 use emu_io::{List, Text};
-use emu_machine::OneAction;
-use result_files::{OneActionSchedule, OneGateNetlist, TwoNetMap};
+use emu_machine::Results;
 use std::alloc::Global;
-
-/// A design, without groups, and a board of one chip.
-#[derive(Debug, Drop)]
-pub struct Front {
-    pub design: OneGate,
-    pub chip: OneChip,
-}
 
 /// The bytes of one of the texts of a command.
 pub fn text_at(command: Command, texts: &List<Text>, what: What) -> &[u8]
@@ -33,53 +28,66 @@ pub fn text_at(command: Command, texts: &List<Text>, what: What) -> &[u8]
     texts.get(command.place_of(what)).bytes()
 }
 
-/// The design, the groups and the board that the texts say.
-pub fn read_front(alloc: Global, top: &[u8], texts: &List<Text>) -> Result<Front, Unread>
-    requires count { length texts.now ≡ text_count Command.Check }
-    requires within { AreWithin (texts_of Command.Check texts.now) }
-    ensures means { AllMean top.now (texts_of Command.Check texts.now) (FrontSays top.now (texts_of Command.Check texts.now)) result }
-    ensures some { IfOk result (λ front. 0 < front.chip.slots) }
+/// The design that the texts say.
+pub fn read_first(
+    alloc: Global,
+    command: Command,
+    top: &[u8],
+    texts: &List<Text>,
+) -> Result<Design, Unread>
+    requires count { length texts.now ≡ text_count command }
+    requires within { AreWithin (texts_of command texts.now) }
+    requires reads { Reads command What.Design }
+    ensures { AllMean command top.now (texts_of command texts.now) (SaysDesign top.now (texts_of command texts.now What.Design)) result }
 {
-    let design = read_design(alloc, top, text_at(Command::Check, texts, What::Design))?;
-    read_groups(alloc, text_at(Command::Check, texts, What::Groups))?;
-    let chip = read_one_chip(alloc, text_at(Command::Check, texts, What::Board))?;
-    Ok(Front { design, chip })
+    let design = read_design(alloc, top, text_at(command, texts, What::Design))?;
+    Ok(design)
+}
+
+/// That the design has an order and there are no groups; and the board that the texts say.
+pub fn read_board_texts(
+    alloc: Global,
+    command: Command,
+    top: &[u8],
+    texts: &List<Text>,
+    design: &Design,
+) -> Result<OneChip, Unread>
+    requires count { length texts.now ≡ text_count command }
+    requires groups { Reads command What.Groups }
+    requires board { Reads command What.Board }
+    requires before { SaysDesign top.now (texts_of command texts.now What.Design) design.now }
+    ensures means { AllMean command top.now (texts_of command texts.now) (BoardSays top.now (texts_of command texts.now) design.now) result }
+    ensures some { IfOk result (λ chip. 0 < chip.slots) }
+{
+    let _ranked = rank_design(alloc, design)?;
+    read_groups(alloc, text_at(command, texts, What::Groups))?;
+    let chip = read_one_chip(alloc, text_at(command, texts, What::Board))?;
+    Ok(chip)
 }
 
 /// The results that the texts say, where those before them are read.
 pub fn read_results(
     alloc: Global,
+    command: Command,
     top: &[u8],
     texts: &List<Text>,
-    front: &Front,
-) -> Result<OneAction, Unread>
-    requires count { length texts.now ≡ text_count Command.Check }
-    requires within { AreWithin (texts_of Command.Check texts.now) }
-    requires before { FrontSays top.now (texts_of Command.Check texts.now) front.now }
-    ensures { AllMean top.now (texts_of Command.Check texts.now) (ResultsSay (texts_of Command.Check texts.now)) result }
+    design: &Design,
+    chip: OneChip,
+) -> Result<Results, Unread>
+    requires count { length texts.now ≡ text_count command }
+    requires within { AreWithin (texts_of command texts.now) }
+    requires netlist { Reads command What.Netlist }
+    requires schedule { Reads command What.Schedule }
+    requires map { Reads command What.Map }
+    requires before { BoardSays top.now (texts_of command texts.now) design.now chip }
+    ensures means { AllMean command top.now (texts_of command texts.now) (ResultsSay (texts_of command texts.now)) result }
+    ensures plain { IfOk result IsPlainResults }
 {
-    let _before = front;
-    let netlist = read_netlist(alloc, text_at(Command::Check, texts, What::Netlist))?;
-    let schedule = read_schedule(alloc, text_at(Command::Check, texts, What::Schedule))?;
-    let map = read_map(alloc, text_at(Command::Check, texts, What::Map))?;
-    Ok(results_of(netlist, schedule, map))
-}
-
-/// The results that a netlist, a schedule and a map make together.
-fn results_of(netlist: OneGateNetlist, schedule: OneActionSchedule, map: TwoNetMap) -> OneAction
-    ensures { result ≡ results_of netlist schedule map }
-{
-    OneAction {
-        inverts: netlist.inverts,
-        gate_drives_second: netlist.gate_drives_second,
-        gate_reads_second: netlist.gate_reads_second,
-        group: schedule.group,
-        chip: schedule.chip,
-        register: schedule.register,
-        net: schedule.net,
-        first_subject: map.first_subject,
-        second_subject: map.second_subject,
-        kept: map.kept,
-        shows_second: map.shows_second,
-    }
+    let _before = (design, chip);
+    let netlist = read_netlist(alloc, text_at(command, texts, What::Netlist))?;
+    let schedule = read_schedule(alloc, text_at(command, texts, What::Schedule))?;
+    let map = read_map(alloc, text_at(command, texts, What::Map), &netlist)?;
+    let mut net = List::new(alloc);
+    net.push(netlist)?;
+    Ok(Results { net, schedule, map })
 }

@@ -1,7 +1,7 @@
 //! Why a text is refused.
 
 use crate::what::What;
-use emu_io::NoMemory;
+use emu_io::{List, NoMemory, Text};
 
 /// What can be wrong with a design text that has no tree.
 #[derive(Clone, Copy, Debug, Drop, PartialEq, Eq)]
@@ -34,16 +34,18 @@ pub struct Fault {
 }
 
 /// Why a text is refused.
-#[derive(Clone, Copy, Debug, Drop, PartialEq, Eq)]
+#[derive(Debug, Drop)]
 pub enum Refusal {
     /// The design text has this fault.
     Faulty(Fault),
+    /// The design's nodes go in a circle, whose names these are.
+    Cycle(List<Text>),
     /// This text is not of the form that is read so far.
     NotYet(What),
 }
 
 /// Why texts were not read.
-#[derive(Clone, Copy, Debug, Drop, PartialEq, Eq)]
+#[derive(Debug, Drop)]
 pub enum Unread {
     /// A text is refused.
     Refused(Refusal),

@@ -1,9 +1,6 @@
 use Rattle.std.proofs.Common.{rules, refl}
-use Rattle.emu_app.proofs.Readings.{no_netlist, no_netlist_tokens}
+use Rattle.emu_app.proofs.Readings.{no_netlist_tokens}
 use Rattle.emu_app.proofs.result_texts.read_netlist.Goals as goal
-
-pub returns-in-Ok : goal.returns-in-Ok
-returns-in-Ok c = (refl, no_netlist c.each_text_has_one_answer.ensures c.args.text.now c.in-Ok.tokens c.in-Ok.ensures.reads c.in-None.ensures)
 
 pub returns : goal.returns
 returns c = (refl, no_netlist_tokens c.each_text_has_one_answer.ensures c.args.text.now c.in-Err.fault c.in-Err.ensures.reads (search rules))
