@@ -1,4 +1,5 @@
 pub mod Places
 pub mod Given
 pub mod Groups
+pub mod Chips
 pub mod TakenIn
