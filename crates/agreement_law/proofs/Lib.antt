@@ -2,4 +2,5 @@ pub mod Places
 pub mod Given
 pub mod Groups
 pub mod Chips
+pub mod Accepted
 pub mod TakenIn
