@@ -3,4 +3,5 @@ pub mod Given
 pub mod Groups
 pub mod Chips
 pub mod Accepted
+pub mod EventTruth
 pub mod TakenIn
