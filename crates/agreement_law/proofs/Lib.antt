@@ -4,4 +4,5 @@ pub mod Groups
 pub mod Chips
 pub mod Accepted
 pub mod EventTruth
+pub mod FrameStart
 pub mod TakenIn

@@ -1,5 +1,5 @@
 use Rattle.agreement_law.proofs.Accepted.{output_shows}
-use Rattle.agreement_law.proofs.EventTruth.{nothing_happens}
+use Rattle.agreement_law.proofs.FrameStart.{start_true}
 -- A slot whose actions all take in from outside keeps true marks true.
 use Rattle.std.proofs.Common.{◌≡◌, ℕ, zero, suc, Bool, true, false, List, [], ◌∷◌, refl, subst, sym, ap, ◌∙◌}
 use Rattle.std.specs.Prelude.{◌<◌, ◌+◌, ◌||◌, is_some, take, Option, Some, None, slice_get, unwrap_or, option_and_then, Contains, if◌then◌else◌}
