@@ -21,7 +21,7 @@ use Rattle.emu_machine.specs.declared.map.Subject.{Subject}
 use Rattle.emu_machine.specs.declared.map.Subject.TheVariants.{Net, Up, Down, Take, Next, TakeWrite}
 use Rattle.emu_machine.specs.declared.results.Results.{Results}
 use Rattle.emu_machine.specs.State.{State, present}
-use Rattle.emu_machine.specs.Mapped.{subject, memory_of, design_write, is_kept, IsValueOf, IsLoaded}
+use Rattle.emu_machine.specs.Mapped.{subject, memory_of, design_write, is_kept, IsValueOf, HoldsState, IsLoaded}
 use Rattle.emu_machine.specs.Marks.{Mark, no_mark, only_before, design_writes, writes_of, start_marks}
 use Rattle.marks_law.specs.Facts.{EventFacts}
 use Rattle.marks_law.specs.Truth.{MarkHolds, IsTrueOf}
@@ -33,7 +33,7 @@ use Rattle.agreement_law.proofs.Places.{counted_found, at_map}
 
 -- ## The marks of what is kept
 
-pub before_true : (p : Parts) (v w : Valuation) (o : Option Subject) (b : Bool) → IsValueOf v o b → IsTrueOf p v w o only_before b
+before_true : (p : Parts) (v w : Valuation) (o : Option Subject) (b : Bool) → IsValueOf v o b → IsTrueOf p v w o only_before b
 before_true p v w None b h = tt
 before_true p v w (Some (Net n)) b h = record { before = λ a. h; after = λ a. no a }
 before_true p v w (Some (Up n)) b h = absurd h
@@ -42,9 +42,14 @@ before_true p v w (Some (Take e)) b h = absurd h
 before_true p v w (Some (Next e)) b h = absurd h
 before_true p v w (Some (TakeWrite m k)) b h = absurd h
 
-pub nothing_true : (p : Parts) (v w : Valuation) (o : Option Subject) (b : Bool) → IsTrueOf p v w o no_mark b
+nothing_true : (p : Parts) (v w : Valuation) (o : Option Subject) (b : Bool) → IsTrueOf p v w o no_mark b
 nothing_true p v w None b = tt
 nothing_true p v w (Some what) b = record { before = λ a. no a; after = λ a. no a }
+
+-- what is kept shows its value from before
+pub kept_true : (p : Parts) (r : Results) (v w : Valuation) (x : State) → HoldsState p r v x → (c n : ℕ) (b : Bool) → is_kept r c n ≡ b → IsTrueOf p v w (subject r c n) (if b then only_before else no_mark) (x.held c n)
+kept_true p r v w x state c n true e = before_true p v w (subject r c n) (x.held c n) (state.held c n e)
+kept_true p r v w x state c n false e = nothing_true p v w (subject r c n) (x.held c n)
 
 -- ## The writes that lie outside
 
@@ -113,10 +118,6 @@ module _ (p : Parts) (inside : NodeId → Bool) (v w : Valuation) (event : List 
           ∙ rest
 
 module _ (p : Parts) (d : IsDesign p) (r : Results) (inside : NodeId → Bool) (v w : Valuation) (event : List PortBit) (facts : EventFacts p inside v event w) (x : State) (loaded : IsLoaded p r v x) where
-  held_true : (c n : ℕ) (b : Bool) → is_kept r c n ≡ b → IsTrueOf p v w (subject r c n) (if b then only_before else no_mark) (x.held c n)
-  held_true c n true e = before_true p v w (subject r c n) (x.held c n) (loaded.state.held c n e)
-  held_true c n false e = nothing_true p v w (subject r c n) (x.held c n)
-
   standing_idle : (c m of a : ℕ) (memory : Memory) → memory_of r c m ≡ Some of → slice_get p.memories of ≡ Some memory → (old : ℕ)
       → written v w (take (count_by (λ a. not (inside a)) (writes_of p r c m)) memory.writes) a old ≡ old
   standing_idle c m of a memory at there old =
@@ -132,7 +133,7 @@ module _ (p : Parts) (d : IsDesign p) (r : Results) (inside : NodeId → Bool) (
   pub start_true : StateTrue p r v w (start_marks p r inside) (present event x)
   start_true =
       record {
-        sources = λ c n. held_true c n (is_kept r c n) refl;
+        sources = λ c n. kept_true p r v w x loaded.state c n (is_kept r c n) refl;
         words = λ c m of a memory at there address ok.
             loaded.state.words c m of a at address ∙ sym (standing_idle c m of a memory at there (v.word of a));
         untouched = λ c m of a at address ok. loaded.state.words c m of a at address;

@@ -5,4 +5,5 @@ pub mod Chips
 pub mod Accepted
 pub mod EventTruth
 pub mod FrameStart
+pub mod Shown
 pub mod TakenIn
