@@ -1,6 +1,6 @@
 -- What nets of chips stand for, and which of them no gate drives, where parts fit.
 use Rattle.std.proofs.Common.{◌≡◌, ℕ, zero, suc, ◌+◌, ◌<◌, arith, Bool, true, false, List, [], ◌∷◌, length, map, refl, subst, sym, ap, ◌∙◌, inl, inr}
-use Rattle.std.specs.Prelude.{◌==◌, ◌&&◌, ◌||◌, ◌⊎◌, Option, Some, None, slice_get, unwrap_or, option_and_then, count_by, zip, flat_map, if◌then◌else◌}
+use Rattle.std.specs.Prelude.{◌==◌, ◌&&◌, ◌||◌, ◌⊎◌, Option, Some, None, slice_get, unwrap_or, option_map, option_and_then, count_by, zip, flat_map, if◌then◌else◌}
 use Rattle.std.specs.List.{list_any, list_all, enumerate_from}
 use Rattle.std.specs.Option.{option_map_or}
 use Rattle.std.proofs.lemmas.Option.{none-some, same_Some, slice_get_within}
@@ -27,7 +27,7 @@ use Rattle.emu_machine.specs.declared.map.ChipMap.{ChipMap}
 use Rattle.emu_machine.specs.declared.map.MemMap.{MemMap}
 use Rattle.emu_machine.specs.declared.results.Results.{Results}
 use Rattle.emu_machine.specs.Netlist.{chip_at, is_chip_net, read_nets, net_drivers, IsNetlist, gate_of, on_net}
-use Rattle.emu_machine.specs.Mapped.{no_chip_map, chip_map, subject, flop_at}
+use Rattle.emu_machine.specs.Mapped.{no_chip_map, chip_map, subject, memory_of, flop_at}
 use Rattle.emu_machine.specs.Origins.{Origin, same_subject, has_subject, have_subjects, origin_of, net_origin, has_origin, gate_fits, is_design_net, is_net_subject, flop_of, flop_of_driver, flop_register_fits, register_pins_fit, register_fits, write_fits, read_fits, memory_ports_fit, memory_fits}
 use Rattle.emu_machine.specs.Acceptance.{Case, register_at, mapped_memory_fits}
 use Rattle.emu_machine.specs.Law.{MapFits, ChipEntryFits, IsCase}
@@ -36,6 +36,10 @@ use Rattle.marks_law.proofs.Inputs.{same_subject_is}
 use Rattle.history_law.proofs.Lists.{Has, Under, has_under, under_has, counted, any_counted}
 use Rattle.history_law.proofs.Naming.{element_is_driver, driver_is_element, read_bit_is_driver, same_number as equal_numbers}
 use Rattle.agreement_law.proofs.Places.{all_at, at_zip, zip_at, at_same_place, at_map, counted_found, not_found, one_of}
+
+mapped_is : {X : Type 0} {Y : Type 0} (f : X → Y) (o : Option X) (y : Y) → option_map f o ≡ Some y → (x : X) × (o ≡ Some x)
+mapped_is f None y h = absurd (none-some y h)
+mapped_is f (Some x) y h = (x, refl)
 
 -- ## The entries of the map
 
@@ -58,6 +62,20 @@ module _ (r : Results) (fits : MapFits r) where
   -- a net with a subject is a net of its chip
   pub subject_in_range : (c n : ℕ) (what : Subject) → subject r c n ≡ Some what → n < (chip_at r.net c).nets
   subject_in_range c n what h = net_of_entry c n what (slice_get r.map.chips c) refl h
+
+  memory_of_entry : (c m of : ℕ) → (o : Option ChipMap) → slice_get r.map.chips c ≡ o → option_map (λ (entry : MemMap). entry.of.place) (slice_get (unwrap_or o no_chip_map).memories m) ≡ Some of
+      → (memory : EmuMemory) × (slice_get (chip_at r.net c).memories m ≡ Some memory)
+  memory_of_entry c m of None e h = absurd (none-some of h)
+  memory_of_entry c m of (Some entry) e h =
+      let there = entry_beside c entry e in
+      let named = mapped_is (λ (entry : MemMap). entry.of.place) (slice_get entry.memories m) of h in
+      let same : length entry.memories ≡ length there.0.memories = there.2.memories in
+      let memory = at_same_place entry.memories there.0.memories m named.0 same named.1 in
+      (memory.0, ap (λ (o : Option Chip). slice_get (unwrap_or o (chip_at [] 0)).memories m) there.1 ∙ memory.1)
+
+  -- a memory that the map names is there
+  pub memory_stands : (c m of : ℕ) → memory_of r c m ≡ Some of → (memory : EmuMemory) × (slice_get (chip_at r.net c).memories m ≡ Some memory)
+  memory_stands c m of h = memory_of_entry c m of (slice_get r.map.chips c) refl h
 
 -- ## The subjects of what registers and read ports drive
 
@@ -232,3 +250,10 @@ module _ (c : Case) (is : IsCase c) where
             let f = counted_found (λ (r : EmuRegister). is_chip_net n r.q) (chip_at c.results.net chip).registers some in
             same_net _ m (ap (subject c.results chip) (same_number _ _ f.3) ∙ h) (register_stands chip f.0 f.1 f.2)
         by_driver (inr (inr some)) = same_net _ m h (read_stands chip n (read_at (chip_at c.results.net chip) n some))
+
+-- ## What is shown where no gate is
+
+pub at_source : {A : Type 0} (chip : Chip) (source : ℕ → A) (combine : EmuGate → List A → A) (room n : ℕ) → gate_of chip n ≡ None → on_net chip source combine room n ≡ source n
+at_source chip source combine zero n e = refl
+at_source {A} chip source combine (suc room) n e =
+    ap (λ (o : Option EmuGate). option_map_or (λ (gate : EmuGate). combine gate (map (λ (i : ChipNetId). on_net chip source combine room i.place) gate.inputs)) o (source n)) e

@@ -6,4 +6,5 @@ pub mod Accepted
 pub mod EventTruth
 pub mod FrameStart
 pub mod Shown
+pub mod FrameEnd
 pub mod TakenIn

@@ -1,3 +1,4 @@
+use Rattle.agreement_law.proofs.FrameEnd.{end_loaded}
 use Rattle.agreement_law.proofs.Shown.{agrees}
 use Rattle.agreement_law.proofs.Accepted.{output_shows}
 use Rattle.agreement_law.proofs.FrameStart.{start_true}
