@@ -1,7 +1,7 @@
 -- What the rules of acceptance say where they hold.
-use Rattle.std.proofs.Common.{◌≡◌, ℕ, zero, suc, Bool, true, false, not, List, [], ◌∷◌, length, map, refl, subst, sym, ap, ◌∙◌}
-use Rattle.std.specs.Prelude.{◌==◌, ◌&&◌, ◌||◌, Option, Some, None, slice_get, unwrap_or, is_some, count_by, option_and_then, IsTrue}
-use Rattle.std.specs.List.{list_any, list_all}
+use Rattle.std.proofs.Common.{◌≡◌, ℕ, Bool, true, false, not, List, [], length, refl, subst, sym, ap, ◌∙◌}
+use Rattle.std.specs.Prelude.{◌&&◌, ◌||◌, Option, Some, None, slice_get, is_some}
+use Rattle.std.specs.List.{list_all}
 use Rattle.std.specs.Option.{option_map_or}
 use Rattle.id_arena.specs.declared.keys.NetId.{NetId}
 use Rattle.id_arena.specs.declared.keys.ChipNetId.{ChipNetId}
@@ -18,13 +18,12 @@ use Rattle.emu_machine.specs.declared.schedule.Slot.{Slot}
 use Rattle.emu_machine.specs.declared.map.Spot.{Spot}
 use Rattle.emu_machine.specs.declared.map.Subject.TheVariants.{Net}
 use Rattle.emu_machine.specs.declared.place.Place.TheVariants as place
-use Rattle.emu_machine.specs.declared.place.Thing.{Thing}
 use Rattle.emu_machine.specs.Netlist.{chip_at}
 use Rattle.emu_machine.specs.State.{frame_slots, read_port}
 use Rattle.emu_machine.specs.Mapped.{subject}
 use Rattle.emu_machine.specs.Marks.{writes_of}
 use Rattle.emu_machine.specs.Origins.{gate_fits, register_fits}
-use Rattle.emu_machine.specs.Acceptance.{Case, Rule, A1, A2, A3, A4, A5, A6, A7, A8, A9, A10, A11, A12, Holds, fails_test, slot_actions, action_at, action_fits, uses_again, keeps_subject, register_at, mapped_memory_fits, output_differs, spot_subject, same_subjects, frame_differs, has_frame, end_marks, ends_after, is_kept_register, is_kept_read, register_ends, memory_ends, read_ends, shows_before}
+use Rattle.emu_machine.specs.Acceptance.{Case, Rule, A4, A5, A6, A7, A8, A9, A11, A12, Holds, fails_test, slot_actions, action_at, action_fits, uses_again, keeps_subject, register_at, mapped_memory_fits, output_differs, frame_differs, has_frame, end_marks, ends_after, is_kept_register, is_kept_read, register_ends, memory_ends, read_ends, shows_before}
 use Rattle.marks_law.proofs.Plain.{no, left, right, must, must_not, not_true, same_number}
 use Rattle.agreement_law.specs.Slots.{ActionsFit}
 use Rattle.agreement_law.proofs.Given.{same_subjects_is}
@@ -87,7 +86,7 @@ module _ (c : Case) (inside : ℕ → NodeId → Bool) (rules : (rule : Rule) �
     pub register_ends_after : (chip i : ℕ) (register : EmuRegister) → register_at c chip i ≡ Some register → is_kept_register c.results chip i ≡ true → ends_after c inside k chip register.q ≡ true
     register_ends_after chip i register at kept =
         let ended : register_ends c inside k chip i (register_at c chip i) ≡ true =
-            left_out (has_frame c k) _ (rules A11 (place.EndRegister k (record { place = chip }) (record { place = i }))) there in
+        left_out (has_frame c k) _ (rules A11 (place.EndRegister k (record { place = chip }) (record { place = i }))) there in
         now (is_kept_register c.results chip i) kept (sym (ap (register_ends c inside k chip i) at) ∙ ended)
       where
         now : (b : Bool) → b ≡ true → (not b || ends_after c inside k chip register.q) ≡ true → ends_after c inside k chip register.q ≡ true
@@ -98,7 +97,7 @@ module _ (c : Case) (inside : ℕ → NodeId → Bool) (rules : (rule : Rule) �
         → (b : ℕ) (n : ChipNetId) → slice_get port.bits b ≡ Some n → ends_after c inside k chip n ≡ true
     read_ends_after chip m i port at kept b n in_port =
         let ended : read_ends c inside k chip m i (read_port c.results.net chip m i) ≡ true =
-            left_out (has_frame c k) _ (rules A11 (place.EndRead k (record { place = chip }) (record { place = m }) i)) there in
+        left_out (has_frame c k) _ (rules A11 (place.EndRead k (record { place = chip }) (record { place = m }) i)) there in
         all_at (ends_after c inside k chip) port.bits b n (now (is_kept_read c.results chip m i) kept (sym (ap (read_ends c inside k chip m i) at) ∙ ended)) in_port
       where
         now : (b : Bool) → b ≡ true → (not b || list_all (ends_after c inside k chip) port.bits) ≡ true → list_all (ends_after c inside k chip) port.bits ≡ true
@@ -109,8 +108,8 @@ module _ (c : Case) (inside : ℕ → NodeId → Bool) (rules : (rule : Rule) �
         → ((end_marks c inside k).broken chip m ≡ false) × ((end_marks c inside k).standing chip m ≡ length (writes_of c.design c.results chip m))
     memory_ends_done chip m memory at =
         let ended : memory_ends c inside k chip m ≡ true =
-            left_out (has_frame c k && is_some (slice_get (chip_at c.results.net chip).memories m)) _ (rules A11 (place.EndMemory k (record { place = chip }) (record { place = m })))
-            (ap (λ b. b && is_some (slice_get (chip_at c.results.net chip).memories m)) there ∙ ap is_some at) in
+        left_out (has_frame c k && is_some (slice_get (chip_at c.results.net chip).memories m)) _ (rules A11 (place.EndMemory k (record { place = chip }) (record { place = m })))
+        (ap (λ b. b && is_some (slice_get (chip_at c.results.net chip).memories m)) there ∙ ap is_some at) in
         (not_true _ (left _ _ ended), same_number _ _ (right _ _ ended))
 
   -- ## Outputs
@@ -119,8 +118,8 @@ module _ (c : Case) (inside : ℕ → NodeId → Bool) (rules : (rule : Rule) �
       → subject c.results spot.chip.place spot.net.place ≡ Some (Net n)
   output_subject k spot n at in_ports =
       let fits : output_differs c.results (Some spot) (Some n) ≡ true → ⊥ =
-          subst (λ (o : Option NetId). output_differs c.results (Some spot) o ≡ true → ⊥) in_ports
-          (subst (λ (o : Option Spot). output_differs c.results o (slice_get (port_bits c.design.outputs) k) ≡ true → ⊥) at (rules A9 (place.Output k))) in
+      subst (λ (o : Option NetId). output_differs c.results (Some spot) o ≡ true → ⊥) in_ports
+      (subst (λ (o : Option Spot). output_differs c.results o (slice_get (port_bits c.design.outputs) k) ≡ true → ⊥) at (rules A9 (place.Output k))) in
       same_subjects_is _ (Net n) (must_not _ fits)
 
   pub output_shows : (k : ℕ) (spot : Spot) → slice_get c.results.map.outputs k ≡ Some spot → shows_before c spot ≡ true

@@ -1,18 +1,13 @@
 -- What nets of chips stand for, and which of them no gate drives, where parts fit.
-use Rattle.std.proofs.Common.{◌≡◌, ℕ, zero, suc, ◌+◌, ◌<◌, arith, Bool, true, false, List, [], ◌∷◌, length, map, refl, subst, sym, ap, ◌∙◌, inl, inr}
-use Rattle.std.specs.Prelude.{◌==◌, ◌&&◌, ◌||◌, ◌⊎◌, Option, Some, None, slice_get, unwrap_or, option_map, option_and_then, count_by, zip, flat_map, if◌then◌else◌}
-use Rattle.std.specs.List.{list_any, list_all, enumerate_from}
+use Rattle.std.proofs.Common.{◌≡◌, ℕ, zero, suc, ◌<◌, arith, Bool, true, false, List, [], ◌∷◌, length, map, refl, subst, sym, ap, ◌∙◌, inl, inr}
+use Rattle.std.specs.Prelude.{◌⊎◌, Option, Some, None, slice_get, unwrap_or, option_map, count_by, zip, flat_map, if◌then◌else◌}
 use Rattle.std.specs.Option.{option_map_or}
 use Rattle.std.proofs.lemmas.Option.{none-some, same_Some, slice_get_within}
 use Rattle.id_arena.specs.declared.keys.NetId.{NetId}
-use Rattle.id_arena.specs.declared.keys.ElemId.{ElemId}
 use Rattle.id_arena.specs.declared.keys.ChipNetId.{ChipNetId}
 use Rattle.design_core.specs.declared.element.Driver.{Driver}
 use Rattle.design_core.specs.declared.element.Driver.TheVariants as driven
-use Rattle.design_core.specs.declared.element.Element.{Element}
 use Rattle.design_core.specs.declared.element.Memory.{Memory}
-use Rattle.design_core.specs.declared.element.ReadPort.{ReadPort}
-use Rattle.design_core.specs.declared.element.WritePort.{WritePort}
 use Rattle.design_core.specs.declared.parts.Parts.{Parts}
 use Rattle.design_core.specs.Design.{IsDesign, net_count, driver}
 use Rattle.emu_machine.specs.declared.netlist.Chip.{Chip}
@@ -20,22 +15,21 @@ use Rattle.emu_machine.specs.declared.netlist.EmuGate.{EmuGate}
 use Rattle.emu_machine.specs.declared.netlist.EmuMemory.{EmuMemory}
 use Rattle.emu_machine.specs.declared.netlist.EmuRead.{EmuRead}
 use Rattle.emu_machine.specs.declared.netlist.EmuRegister.{EmuRegister}
-use Rattle.emu_machine.specs.declared.netlist.EmuWrite.{EmuWrite}
 use Rattle.emu_machine.specs.declared.map.Subject.{Subject}
 use Rattle.emu_machine.specs.declared.map.Subject.TheVariants.{Net, Up, Down, Take, Next, TakeWrite}
 use Rattle.emu_machine.specs.declared.map.ChipMap.{ChipMap}
 use Rattle.emu_machine.specs.declared.map.MemMap.{MemMap}
 use Rattle.emu_machine.specs.declared.results.Results.{Results}
-use Rattle.emu_machine.specs.Netlist.{chip_at, is_chip_net, read_nets, net_drivers, IsNetlist, gate_of, on_net}
-use Rattle.emu_machine.specs.Mapped.{no_chip_map, chip_map, subject, memory_of, flop_at}
-use Rattle.emu_machine.specs.Origins.{Origin, same_subject, has_subject, have_subjects, origin_of, net_origin, has_origin, gate_fits, is_design_net, is_net_subject, flop_of, flop_of_driver, flop_register_fits, register_pins_fit, register_fits, write_fits, read_fits, memory_ports_fit, memory_fits}
+use Rattle.emu_machine.specs.Netlist.{chip_at, is_chip_net, read_nets, net_drivers, gate_of, on_net}
+use Rattle.emu_machine.specs.Mapped.{no_chip_map, chip_map, subject, memory_of}
+use Rattle.emu_machine.specs.Origins.{same_subject, has_subject, have_subjects, origin_of, net_origin, has_origin, gate_fits, is_design_net, is_net_subject, flop_of, flop_of_driver, flop_register_fits, register_pins_fit, register_fits, read_fits, memory_ports_fit, memory_fits}
 use Rattle.emu_machine.specs.Acceptance.{Case, register_at, mapped_memory_fits}
 use Rattle.emu_machine.specs.Law.{MapFits, ChipEntryFits, IsCase}
 use Rattle.marks_law.proofs.Plain.{no, left, right, below, same_number}
 use Rattle.marks_law.proofs.Inputs.{same_subject_is}
-use Rattle.history_law.proofs.Lists.{Has, Under, has_under, under_has, counted, any_counted}
+use Rattle.history_law.proofs.Lists.{Has, Under, has_under, under_has, counted}
 use Rattle.history_law.proofs.Naming.{element_is_driver, driver_is_element, read_bit_is_driver, same_number as equal_numbers}
-use Rattle.agreement_law.proofs.Places.{all_at, at_zip, zip_at, at_same_place, at_map, counted_found, not_found, one_of}
+use Rattle.agreement_law.proofs.Places.{all_at, zip_at, at_same_place, at_map, counted_found, not_found, one_of}
 
 mapped_is : {X : Type 0} {Y : Type 0} (f : X → Y) (o : Option X) (y : Y) → option_map f o ≡ Some y → (x : X) × (o ≡ Some x)
 mapped_is f None y h = absurd (none-some y h)
@@ -155,7 +149,7 @@ module _ (p : Parts) (d : IsDesign p) (r : Results) (c : ℕ) where
       let long : length memory.reads ≡ length design.0.reads = same_number _ _ (right _ _ (left _ _ (left _ _ design.2))) in
       let original = at_same_place memory.reads design.0.reads i port long at in
       let fits : read_fits r c original.0 port ≡ true =
-          all_at (λ (w, port). read_fits r c w port) (zip design.0.reads memory.reads) i (original.0, port) (right _ _ design.2) (zip_at design.0.reads memory.reads i original.0 port original.1 at) in
+      all_at (λ (w, port). read_fits r c w port) (zip design.0.reads memory.reads) i (original.0, port) (right _ _ design.2) (zip_at design.0.reads memory.reads i original.0 port original.1 at) in
       let of = have_subjects_at r c port.bits (map Net original.0.bits) b n (right _ _ fits) in_port in
       let net = at_map Net original.0.bits b of.0 of.1 in
       (net.0, of.2 ∙ ap Some (sym net.2), (read_bit_is_driver p entry.of.place i b design.0 original.0 net.0 d design.1 original.1 net.1).0)

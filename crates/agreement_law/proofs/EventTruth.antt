@@ -1,8 +1,7 @@
 -- The facts of an event of a group, and of the event that gives nothing.
-use Rattle.std.proofs.Common.{◌≡◌, ℕ, zero, suc, ◌+◌, ◌<◌, arith, Bool, true, false, List, [], ◌∷◌, length, get_or, refl, subst, sym, ap, ◌∙◌, inl, inr, if◌then◌else◌}
+use Rattle.std.proofs.Common.{◌≡◌, ℕ, zero, suc, ◌<◌, arith, Bool, true, false, List, [], ◌∷◌, length, get_or, refl, subst, sym, ap, ◌∙◌, inl, inr, if◌then◌else◌}
 use Rattle.std.specs.Prelude.{◌⊎◌, Option, Some, None, slice_get, unwrap_or, option_and_then, Contains, IfSome}
 use Rattle.std.proofs.lemmas.Option.{none-some, slice_get_within, slice_get-get_or}
-use Rattle.id_arena.specs.declared.keys.NetId.{NetId}
 use Rattle.id_arena.specs.declared.keys.MemId.{MemId}
 use Rattle.design_core.specs.declared.element.Element.{Element}
 use Rattle.design_core.specs.declared.element.Element.TheVariants as element
@@ -12,13 +11,12 @@ use Rattle.design_core.specs.declared.node.NodeId.{NodeId}
 use Rattle.design_core.specs.declared.node.NodeId.TheVariants.{Net, Write}
 use Rattle.design_core.specs.declared.parts.Parts.{Parts}
 use Rattle.design_core.specs.declared.values.PortBit.{PortBit}
-use Rattle.design_core.specs.Design.{IsDesign, net_count}
+use Rattle.design_core.specs.Design.{IsDesign}
 use Rattle.design_core.specs.Valuation.{Valuation, forced, passed}
 use Rattle.design_core.specs.Settled.{IsSettled, ElementHolds}
-use Rattle.design_core.specs.Event.{IsAfter, ElementFollows, written}
+use Rattle.design_core.specs.Event.{IsAfter, ElementFollows}
 use Rattle.design_core.specs.Dependency.{IsRanked, dependencies, write_needs, write_needs_at}
 use Rattle.design_core.specs.Influence.{Group, IsInfluence, IsReached, over}
-use Rattle.emu_machine.specs.Mapped.{design_write}
 use Rattle.marks_law.specs.Facts.{DriverFacts, EventFacts}
 use Rattle.marks_law.proofs.Plain.{no}
 use Rattle.history_law.proofs.Naming.{element_is_driver, driver_is_element, read_bit_is_driver, input_bit_is_input}
@@ -76,9 +74,9 @@ module _ (p : Parts) (g : Group) (inside : NodeId → Bool) (i : IsInfluence p g
       let last : suc k < length memory.writes = slice_get_within memory.writes (suc k) port in_port in
       let within : k < length memory.writes = omega arith in
       let here : inside (Write m k) ≡ false = port_before m k memory port at in_port out in
-      elim (below_next j k less)
-      [ inl e ↦ ap (λ (n : ℕ). inside (Write m n)) e ∙ here
-      | inr l ↦ ports_before m memory at k j (get_or memory.writes k port) l (slice_get-get_or memory.writes k port within) here
+      elim (below_next j k less) [
+        | inl e ↦ ap (λ (n : ℕ). inside (Write m n)) e ∙ here
+        | inr l ↦ ports_before m memory at k j (get_or memory.writes k port) l (slice_get-get_or memory.writes k port within) here
       ]
 
   pub event_facts : (v : Valuation) (event : List PortBit) (w : Valuation) → IsDesign p → IsRanked p → IsSettled p v → IsAfter p v event w

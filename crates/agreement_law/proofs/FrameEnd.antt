@@ -1,11 +1,9 @@
 -- At the end of a frame the machine is loaded from the valuation after the event.
-use Rattle.std.proofs.Common.{◌≡◌, ℕ, zero, suc, ◌<◌, Bool, true, false, not, List, [], ◌∷◌, length, map, refl, subst, sym, ap, ◌∙◌, inl, inr}
-use Rattle.std.specs.Prelude.{◌+◌, ◌==◌, ◌&&◌, ◌||◌, ◌⊎◌, Option, Some, None, slice_get, unwrap_or, option_map, option_and_then, take, zip}
+use Rattle.std.proofs.Common.{◌≡◌, ℕ, suc, Bool, true, false, List, [], ◌∷◌, length, map, refl, subst, sym, ap, ◌∙◌, inl, inr}
+use Rattle.std.specs.Prelude.{◌+◌, ◌&&◌, Some, None, slice_get, unwrap_or, option_and_then, take, zip}
 use Rattle.std.specs.List.{list_any, enumerate_from}
 use Rattle.std.specs.Option.{option_map_or}
 use Rattle.std.proofs.Math.Seq.{take-length}
-use Rattle.std.proofs.lemmas.List.{length-map}
-use Rattle.std.proofs.lemmas.Option.{none-some}
 use Rattle.id_arena.specs.declared.keys.NetId.{NetId}
 use Rattle.id_arena.specs.declared.keys.ChipNetId.{ChipNetId}
 use Rattle.design_core.specs.declared.element.Memory.{Memory}
@@ -16,20 +14,17 @@ use Rattle.design_core.specs.declared.values.PortBit.{PortBit}
 use Rattle.design_core.specs.Valuation.{Valuation, IsAddress}
 use Rattle.design_core.specs.Operation.{op_value}
 use Rattle.design_core.specs.Event.{written}
-use Rattle.design_core.specs.Influence.{Group, all_groups}
 use Rattle.emu_machine.specs.declared.netlist.EmuGate.{EmuGate}
 use Rattle.emu_machine.specs.declared.netlist.EmuMemory.{EmuMemory}
 use Rattle.emu_machine.specs.declared.netlist.EmuRead.{EmuRead}
 use Rattle.emu_machine.specs.declared.netlist.EmuRegister.{EmuRegister}
-use Rattle.emu_machine.specs.declared.map.ChipMap.{ChipMap}
 use Rattle.emu_machine.specs.declared.map.MemMap.{MemMap}
-use Rattle.emu_machine.specs.declared.map.Subject.{Subject}
 use Rattle.emu_machine.specs.declared.map.Subject.TheVariants.{Net}
 use Rattle.emu_machine.specs.declared.schedule.Slot.{Slot}
 use Rattle.emu_machine.specs.Netlist.{chip_at, is_chip_net, gate_of}
 use Rattle.emu_machine.specs.State.{State, net_value, after_slots, read_port}
-use Rattle.emu_machine.specs.Mapped.{no_chip_map, chip_map, subject, memory_of, kept_by_register, kept_by_read, is_kept, IsValueOf, HoldsState, IsLoaded}
-use Rattle.emu_machine.specs.Marks.{Mark, MarkState, net_mark, marks_after, design_writes, writes_of}
+use Rattle.emu_machine.specs.Mapped.{chip_map, subject, memory_of, kept_by_register, kept_by_read, is_kept, IsValueOf, IsLoaded}
+use Rattle.emu_machine.specs.Marks.{MarkState, net_mark, marks_after, design_writes, writes_of}
 use Rattle.emu_machine.specs.Acceptance.{Case, Rule, Holds, has_frame, end_marks, ends_after, is_kept_register, is_kept_read}
 use Rattle.emu_machine.specs.Law.{IsCase}
 use Rattle.marks_law.specs.Facts.{EventFacts}
@@ -38,8 +33,7 @@ use Rattle.marks_law.proofs.Plain.{left, right, either, same_number}
 use Rattle.marks_law.proofs.Through.{gates_keep_marks}
 use Rattle.agreement_law.specs.Slots.{StateTrue, PartsFit, KeepsMarks}
 use Rattle.agreement_law.proofs.Places.{any_found, at_zip}
-use Rattle.agreement_law.proofs.EventTruth.{and_then_is}
-use Rattle.agreement_law.proofs.Chips.{IsDesignNet, ReadAt, no_gate_register, no_gate_read, register_stands, read_stands, subjects_stand, memory_stands, at_source}
+use Rattle.agreement_law.proofs.Chips.{ReadAt, no_gate_register, no_gate_read, register_stands, read_stands, subjects_stand, memory_stands, at_source}
 use Rattle.agreement_law.proofs.Accepted.{gates_fit, registers_fit, memories_fit, register_ends_after, read_ends_after, memory_ends_done}
 
 -- slots that keep true marks true do so one after the other
@@ -76,7 +70,7 @@ module _ (c : Case) (is : IsCase c) (inside : ℕ → NodeId → Bool) (rules : 
     after_value : (chip : ℕ) (n : ChipNetId) (m : NetId) → subject c.results chip n.place ≡ Some (Net m) → ends_after c inside k chip n ≡ true → net_value c.results.net y chip n.place ≡ w.net m.place
     after_value chip n m e ended =
         let t : MarkHolds c.design v w (Net m) (net_mark c.design c.results (inside k) (end_marks c inside k) chip n.place) (net_value c.results.net y chip n.place) =
-            subst (λ o. IsTrueOf c.design v w o (net_mark c.design c.results (inside k) (end_marks c inside k) chip n.place) (net_value c.results.net y chip n.place)) e (nets chip n.place) in
+        subst (λ o. IsTrueOf c.design v w o (net_mark c.design c.results (inside k) (end_marks c inside k) chip n.place) (net_value c.results.net y chip n.place)) e (nets chip n.place) in
         t.after ended
 
     held_value : (chip n : ℕ) (at : ChipNetId) (m : NetId) → at.place ≡ n → subject c.results chip at.place ≡ Some (Net m) → ends_after c inside k chip at ≡ true → gate_of (chip_at c.results.net chip) at.place ≡ None
@@ -110,7 +104,7 @@ module _ (c : Case) (is : IsCase c) (inside : ℕ → NodeId → Bool) (rules : 
         let bit = any_found (is_chip_net n) port.bits (right _ _ g.3) in
         let at : ReadAt (chip_at c.results.net chip) bit.1.place = record { mem = f.0; memory = memory; place = g.0; port = port; bit = bit.0; net = bit.1; at_memory = both.0; at_port = ports.0; at_bit = bit.2; same = refl } in
         let kept : is_kept_read c.results chip f.0 g.0 ≡ true =
-            ap (λ o. unwrap_or (option_and_then (λ (entry : MemMap). slice_get entry.kept g.0) o) false) both.1 ∙ ap (λ o. unwrap_or o false) ports.1 ∙ left _ _ g.3 in
+        ap (λ o. unwrap_or (option_and_then (λ (entry : MemMap). slice_get entry.kept g.0) o) false) both.1 ∙ ap (λ o. unwrap_or o false) ports.1 ∙ left _ _ g.3 in
         let named : read_port c.results.net chip f.0 g.0 ≡ Some port = ap (option_and_then (λ (memory : EmuMemory). slice_get memory.reads g.0)) both.0 ∙ ports.0 in
         let stands = read_stands c is (gates_fit c inside rules) (registers_fit c inside rules) (memories_fit c inside rules) chip bit.1.place at in
         held_value chip n bit.1 stands.0 (same_number _ _ bit.3) stands.1
@@ -127,9 +121,9 @@ module _ (c : Case) (is : IsCase c) (inside : ℕ → NodeId → Bool) (rules : 
         let done = memory_ends_done c inside rules k there chip m memory.0 memory.1 in
         let original : Memory = address.0 in
         let nodes : writes_of c.design c.results chip m ≡ map (λ (k, port). Write (record { place = of }) k) (enumerate_from 0 original.writes) =
-            ap (λ o. option_map_or (design_writes c.design) o []) at ∙ ap (λ o. option_map_or (λ (memory : Memory). map (λ (k, port). Write (record { place = of }) k) (enumerate_from 0 memory.writes)) o []) address.1 in
+        ap (λ o. option_map_or (design_writes c.design) o []) at ∙ ap (λ o. option_map_or (λ (memory : Memory). map (λ (k, port). Write (record { place = of }) k) (enumerate_from 0 memory.writes)) o []) address.1 in
         let all : take ((end_marks c inside k).standing chip m) original.writes ≡ original.writes =
-            ap (λ (n : ℕ). take n original.writes) (done.1 ∙ ap length nodes ∙ writes_counted 0 original.writes of) ∙ take-length original.writes in
+        ap (λ (n : ℕ). take n original.writes) (done.1 ∙ ap length nodes ∙ writes_counted 0 original.writes of) ∙ take-length original.writes in
         fine.words chip m of a original at address.1 address done.0
         ∙ ap (λ ports. written v w ports a (v.word of a)) all
         ∙ sym (facts.follows.words of a original address.1 address)

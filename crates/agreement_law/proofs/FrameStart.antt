@@ -1,11 +1,10 @@
 -- At the start of a frame the marks are true of a machine that is loaded.
-use Rattle.std.proofs.Common.{◌≡◌, ℕ, zero, suc, ◌+◌, ◌<◌, arith, Bool, true, false, not, cond, List, [], ◌∷◌, length, map, refl, subst, sym, ap, ◌∙◌, if◌then◌else◌}
+use Rattle.std.proofs.Common.{◌≡◌, ℕ, zero, suc, ◌+◌, ◌<◌, arith, Bool, true, false, not, cond, List, [], ◌∷◌, map, refl, sym, ap, ◌∙◌, if◌then◌else◌}
 use Rattle.std.specs.Prelude.{◌==◌, ◌&&◌, Option, Some, None, slice_get, unwrap_or, option_and_then, take, count_by}
 use Rattle.std.specs.List.{enumerate_from}
 use Rattle.std.specs.Option.{option_map_or}
 use Rattle.std.proofs.Math.Seq.{take-nil}
 use Rattle.std.proofs.lemmas.List.Sums.{sum_by-cons}
-use Rattle.id_arena.specs.declared.keys.NetId.{NetId}
 use Rattle.id_arena.specs.declared.keys.MemId.{MemId}
 use Rattle.design_core.specs.declared.element.Memory.{Memory}
 use Rattle.design_core.specs.declared.element.WritePort.{WritePort}
@@ -13,7 +12,6 @@ use Rattle.design_core.specs.declared.node.NodeId.{NodeId}
 use Rattle.design_core.specs.declared.node.NodeId.TheVariants.{Write}
 use Rattle.design_core.specs.declared.parts.Parts.{Parts}
 use Rattle.design_core.specs.declared.values.PortBit.{PortBit}
-use Rattle.design_core.specs.Operation.{number}
 use Rattle.design_core.specs.Design.{IsDesign}
 use Rattle.design_core.specs.Valuation.{Valuation, shown_number}
 use Rattle.design_core.specs.Event.{given, stores, written}
@@ -22,14 +20,14 @@ use Rattle.emu_machine.specs.declared.map.Subject.TheVariants.{Net, Up, Down, Ta
 use Rattle.emu_machine.specs.declared.results.Results.{Results}
 use Rattle.emu_machine.specs.State.{State, present}
 use Rattle.emu_machine.specs.Mapped.{subject, memory_of, design_write, is_kept, IsValueOf, HoldsState, IsLoaded}
-use Rattle.emu_machine.specs.Marks.{Mark, no_mark, only_before, design_writes, writes_of, start_marks}
+use Rattle.emu_machine.specs.Marks.{no_mark, only_before, design_writes, writes_of, start_marks}
 use Rattle.marks_law.specs.Facts.{EventFacts}
-use Rattle.marks_law.specs.Truth.{MarkHolds, IsTrueOf}
+use Rattle.marks_law.specs.Truth.{IsTrueOf}
 use Rattle.marks_law.proofs.Plain.{no, not_true}
 use Rattle.std.proofs.lemmas.Option.{none-some, same_Some}
 use Rattle.history_law.proofs.Naming.{input_is_input_bit, input_bit_is_input}
 use Rattle.agreement_law.specs.Slots.{StateTrue}
-use Rattle.agreement_law.proofs.Places.{counted_found, at_map}
+use Rattle.agreement_law.proofs.Places.{counted_found}
 
 -- ## The marks of what is kept
 
@@ -104,12 +102,12 @@ module _ (p : Parts) (inside : NodeId → Bool) (v w : Valuation) (event : List 
       go true e rest =
           let none : count_by is_outside (nodes_from (n + 1) ports) ≡ 0 = none_later n port ports stand e in
           let plain : count_by is_outside (nodes_from n (port ∷ ports)) ≡ cond {A = ℕ} (not true) 1 0 + count_by is_outside (nodes_from (n + 1) ports) =
-              counts ∙ ap (λ b. cond {A = ℕ} (not b) 1 0 + count_by is_outside (nodes_from (n + 1) ports)) e in
+          counts ∙ ap (λ b. cond {A = ℕ} (not b) 1 0 + count_by is_outside (nodes_from (n + 1) ports)) e in
           let zeros : count_by is_outside (nodes_from n (port ∷ ports)) ≡ 0 = omega arith in
           ap (λ (k : ℕ). written v w (take k (port ∷ ports)) a old) zeros
       go false e rest =
           let plain : count_by is_outside (nodes_from n (port ∷ ports)) ≡ cond {A = ℕ} (not false) 1 0 + count_by is_outside (nodes_from (n + 1) ports) =
-              counts ∙ ap (λ b. cond {A = ℕ} (not b) 1 0 + count_by is_outside (nodes_from (n + 1) ports)) e in
+          counts ∙ ap (λ b. cond {A = ℕ} (not b) 1 0 + count_by is_outside (nodes_from (n + 1) ports)) e in
           let more : count_by is_outside (nodes_from n (port ∷ ports)) ≡ suc (count_by is_outside (nodes_from (n + 1) ports)) = omega arith in
           let first : n + 0 ≡ n = omega arith in
           let still : stores v w port ≡ false = facts.writes m n port (stand 0 n port refl first) e in
@@ -122,7 +120,7 @@ module _ (p : Parts) (d : IsDesign p) (r : Results) (inside : NodeId → Bool) (
       → written v w (take (count_by (λ a. not (inside a)) (writes_of p r c m)) memory.writes) a old ≡ old
   standing_idle c m of a memory at there old =
       let nodes : writes_of p r c m ≡ map (λ (k, port). Write (record { place = of }) k) (enumerate_from 0 memory.writes) =
-          ap (λ o. option_map_or (design_writes p) o []) at ∙ ap (λ o. option_map_or (λ (memory : Memory). map (λ (k, port). Write (record { place = of }) k) (enumerate_from 0 memory.writes)) o []) there in
+      ap (λ o. option_map_or (design_writes p) o []) at ∙ ap (λ o. option_map_or (λ (memory : Memory). map (λ (k, port). Write (record { place = of }) k) (enumerate_from 0 memory.writes)) o []) there in
       ap (λ nodes. written v w (take (count_by (λ a. not (inside a)) nodes) memory.writes) a old) nodes
       ∙ outside_idle p inside v w event facts (record { place = of }) 0 memory.writes
       (λ k i port in_ports e.

@@ -1,15 +1,13 @@
 -- What the first of some actions to give anything gives, and what is given on a register.
-use Rattle.std.proofs.Common.{◌≡◌, ℕ, zero, suc, Bool, true, false, List, [], ◌∷◌, refl, subst, sym, ap, ◌∙◌, if◌then◌else◌}
-use Rattle.std.specs.Prelude.{◌==◌, ◌<◌, Option, Some, None, slice_get, unwrap_or, option_and_then}
-use Rattle.std.specs.Option.{option_or, option_map_or}
-use Rattle.std.proofs.lemmas.Option.{none-some}
+use Rattle.std.proofs.Common.{◌≡◌, ℕ, suc, Bool, true, false, List, [], ◌∷◌, refl, ap, ◌∙◌, if◌then◌else◌}
+use Rattle.std.specs.Prelude.{◌==◌, Option, Some, None, slice_get, unwrap_or, option_and_then}
+use Rattle.std.specs.Option.{option_or}
 use Rattle.emu_machine.specs.declared.map.Subject.{Subject}
 use Rattle.emu_machine.specs.declared.netlist.Chip.{Chip}
 use Rattle.emu_machine.specs.declared.netlist.EmuRegister.{EmuRegister}
 use Rattle.emu_machine.specs.declared.schedule.Action.{Action}
 use Rattle.emu_machine.specs.Netlist.{chip_at, is_chip_net}
 use Rattle.emu_machine.specs.State.{first_given, on_register}
-use Rattle.emu_machine.specs.Origins.{same_subject}
 use Rattle.emu_machine.specs.Acceptance.{same_subjects}
 use Rattle.marks_law.proofs.Plain.{no, same_number}
 use Rattle.marks_law.proofs.Inputs.{same_subject_is}

@@ -1,10 +1,13 @@
 pub mod Places
 pub mod Given
 pub mod Groups
+pub mod TakenIn
 pub mod Chips
 pub mod Accepted
 pub mod EventTruth
 pub mod FrameStart
-pub mod Shown
 pub mod FrameEnd
-pub mod TakenIn
+pub mod Shown
+pub mod OneUse
+pub mod Runs
+pub mod PlainRuns

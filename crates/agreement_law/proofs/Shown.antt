@@ -1,6 +1,6 @@
 -- The net of each output shows its bit of whatever settled valuation the machine holds.
-use Rattle.std.proofs.Common.{◌≡◌, ℕ, zero, suc, Bool, true, false, List, [], length, map, refl, subst, sym, ap, ◌∙◌, if◌then◌else◌}
-use Rattle.std.specs.Prelude.{Option, Some, None, slice_get}
+use Rattle.std.proofs.Common.{◌≡◌, ℕ, Bool, true, false, List, [], length, map, refl, subst, if◌then◌else◌}
+use Rattle.std.specs.Prelude.{Option, Some, None}
 use Rattle.std.specs.Option.{option_map_or}
 use Rattle.id_arena.specs.declared.keys.NetId.{NetId}
 use Rattle.design_core.specs.declared.element.Driver.{Driver}
@@ -9,13 +9,12 @@ use Rattle.design_core.specs.declared.node.NodeId.{NodeId}
 use Rattle.design_core.specs.declared.parts.Parts.{Parts}
 use Rattle.design_core.specs.declared.values.PortBit.{PortBit}
 use Rattle.design_core.specs.Operation.{op_value}
-use Rattle.design_core.specs.Design.{driver, port_bits}
+use Rattle.design_core.specs.Design.{driver}
 use Rattle.design_core.specs.Valuation.{Valuation}
 use Rattle.design_core.specs.Settled.{IsSettled}
 use Rattle.emu_machine.specs.declared.netlist.EmuGate.{EmuGate}
 use Rattle.emu_machine.specs.declared.map.Subject.{Subject}
 use Rattle.emu_machine.specs.declared.map.Subject.TheVariants.{Net, Up, Down, Take, Next, TakeWrite}
-use Rattle.emu_machine.specs.declared.map.Spot.{Spot}
 use Rattle.emu_machine.specs.declared.results.Results.{Results}
 use Rattle.emu_machine.specs.Netlist.{chip_at, through_gates}
 use Rattle.emu_machine.specs.State.{State, net_value}
@@ -100,8 +99,8 @@ module _ (c : Case) (is : IsCase c) (inside : ℕ → NodeId → Bool) (rules : 
         state = state;
         outputs = λ k spot n at in_ports.
             let t : MarkHolds c.design v v (Net n) (plain_mark spot.chip.place spot.net.place) (net_value c.results.net x spot.chip.place spot.net.place) =
-                subst (λ o. IsTrueOf c.design v v o (plain_mark spot.chip.place spot.net.place) (net_value c.results.net x spot.chip.place spot.net.place))
-                (output_subject c inside rules k spot n at in_ports)
-                (shown spot.chip.place spot.net.place) in
+            subst (λ o. IsTrueOf c.design v v o (plain_mark spot.chip.place spot.net.place) (net_value c.results.net x spot.chip.place spot.net.place))
+            (output_subject c inside rules k spot n at in_ports)
+            (shown spot.chip.place spot.net.place) in
             t.before (output_shows c inside rules k spot at);
       }

@@ -1,21 +1,14 @@
-use Rattle.agreement_law.proofs.FrameEnd.{end_loaded}
-use Rattle.agreement_law.proofs.Shown.{agrees}
-use Rattle.agreement_law.proofs.Accepted.{output_shows}
-use Rattle.agreement_law.proofs.FrameStart.{start_true}
 -- A slot whose actions all take in from outside keeps true marks true.
-use Rattle.std.proofs.Common.{◌≡◌, ℕ, zero, suc, Bool, true, false, List, [], ◌∷◌, refl, subst, sym, ap, ◌∙◌}
-use Rattle.std.specs.Prelude.{◌<◌, ◌+◌, ◌||◌, is_some, take, Option, Some, None, slice_get, unwrap_or, option_and_then, Contains, if◌then◌else◌}
+use Rattle.std.proofs.Common.{◌≡◌, ℕ, Bool, true, false, List, refl, subst, sym, ap, ◌∙◌}
+use Rattle.std.specs.Prelude.{◌+◌, ◌||◌, take, Some, None, slice_get, unwrap_or, option_and_then, if◌then◌else◌}
 use Rattle.std.specs.Option.{option_map_or}
 use Rattle.id_arena.specs.declared.keys.ChipId.{ChipId}
 use Rattle.id_arena.specs.declared.keys.RegId.{RegId}
 use Rattle.id_arena.specs.declared.keys.NetId.{NetId}
 use Rattle.design_core.specs.declared.node.NodeId.{NodeId}
-use Rattle.design_core.specs.declared.values.PortBit.{PortBit}
-use Rattle.design_core.specs.declared.element.Memory.{Memory}
 use Rattle.design_core.specs.declared.element.Driver.TheVariants as driven
-use Rattle.design_core.specs.Design.{driver, port_bits, includes}
-use Rattle.design_core.specs.Influence.{Group, all_groups, IsGroup}
-use Rattle.design_core.specs.Valuation.{Valuation, IsAddress}
+use Rattle.design_core.specs.Design.{driver}
+use Rattle.design_core.specs.Valuation.{Valuation}
 use Rattle.design_core.specs.Event.{written}
 use Rattle.emu_machine.specs.declared.netlist.EmuRegister.{EmuRegister}
 use Rattle.emu_machine.specs.declared.schedule.Action.{Action}
@@ -27,11 +20,10 @@ use Rattle.emu_machine.specs.Mapped.{subject}
 use Rattle.emu_machine.specs.Marks.{Mark, MarkState, only_after, marks_step, action_mark, port_written, write_counts}
 use Rattle.emu_machine.specs.Acceptance.{Case, register_at, register_subject, action_fits, is_in_group, keeps_subject, same_subjects}
 use Rattle.emu_machine.specs.Law.{IsCase}
-use Rattle.marks_law.specs.Facts.{EventFacts}
-use Rattle.marks_law.specs.Truth.{MarkHolds, IsTrueOf}
+use Rattle.marks_law.specs.Truth.{IsTrueOf}
 use Rattle.marks_law.proofs.Plain.{no, right}
 use Rattle.agreement_law.proofs.Groups.{group_net_is_input}
-use Rattle.agreement_law.specs.Slots.{StateTrue, ActionsFit, KeepsMarks, IsInput, AreInputs, InputSlotsKeepMarks}
+use Rattle.agreement_law.specs.Slots.{StateTrue, ActionsFit, IsInput, AreInputs, InputSlotsKeepMarks}
 use Rattle.agreement_law.proofs.Given.{none_given, Beside, neither, both, first_beside, taken_beside, on_both, same_subjects_is}
 
 neither_left : (a b : Bool) → (a || b) ≡ false → a ≡ false
@@ -71,8 +63,8 @@ module _ (c : Case) (k : ℕ) (is : IsCase c) (inside : NodeId → Bool) (v w : 
   on_net chip n on reg net known kept register here found q =
       let there : register_at c on.place reg.place ≡ Some register = subst (λ (i : ℕ). register_at c i reg.place ≡ Some register) (sym here) found in
       let of : subject c.results on.place register.q.place ≡ Some (Net net) =
-          same_subjects_is _ (Net net)
-          (ap (λ o. same_subjects (option_and_then (λ (r : EmuRegister). subject c.results on.place r.q.place) o) (Some (Net net))) (sym there) ∙ kept) in
+      same_subjects_is _ (Net net)
+      (ap (λ o. same_subjects (option_and_then (λ (r : EmuRegister). subject c.results on.place r.q.place) o) (Some (Net net))) (sym there) ∙ kept) in
       let mine : subject c.results chip n ≡ Some (Net net) = ap (λ (i : ℕ). subject c.results i n) (sym here) ∙ ap (subject c.results on.place) (sym q) ∙ of in
       subst (λ o. IsTrueOf c.design v w o only_after (x.outside net.place)) (sym mine) (taken net (group_net_is_input c k net.place is known))
 

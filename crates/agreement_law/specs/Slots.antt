@@ -1,7 +1,6 @@
 -- What one slot makes of true marks: where its actions meet the rules, marks that are true at its start
 -- give marks that are true at its end. The rules are told in docs/RULES.md, "Marks" and "Acceptance".
 use Rattle.std.specs.Prelude.{◌≡◌, ℕ, Bool, true, false, Some, List, take, slice_get}
-use Rattle.id_arena.specs.declared.wire.Wire.{Wire}
 use Rattle.design_core.specs.declared.element.Memory.{Memory}
 use Rattle.design_core.specs.declared.element.Driver.TheVariants as driven
 use Rattle.design_core.specs.declared.node.NodeId.{NodeId}

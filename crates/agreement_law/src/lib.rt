@@ -4,4 +4,5 @@
 //! The crate has no code that runs. Each public function is empty, and its contract is a law.
 #![tactic(auto)]
 
+pub mod agreement;
 pub mod slots;
