@@ -1,0 +1,4 @@
+pub mod Rounds
+pub mod Opened
+pub mod Carried
+pub mod Alone
