@@ -179,7 +179,7 @@ read_at chip n some =
     let q : Under (λ (port : EmuRead). port.bits) m.item.reads f.1 = under_has (λ (port : EmuRead). port.bits) m.item.reads f.1 m.has in
     record { mem = m.place; memory = m.item; place = q.place; port = q.item; bit = q.has.place; net = f.1; at_memory = m.at; at_port = q.at; at_bit = q.has.at; same = same_number _ _ f.3 }
 
-read_counted : (chip : Chip) (n : ℕ) → ReadAt chip n → 0 < count_by (is_chip_net n) (read_nets chip)
+pub read_counted : (chip : Chip) (n : ℕ) → ReadAt chip n → 0 < count_by (is_chip_net n) (read_nets chip)
 read_counted chip n f =
     let inner : Has (port_bits_of f.memory) f.net = has_under (λ (port : EmuRead). port.bits) f.memory.reads f.net (record { place = f.place; item = f.port; at = f.at_port; has = record { place = f.bit; at = f.at_bit } }) in
     let whole : Has (read_nets chip) f.net = has_under port_bits_of chip.memories f.net (record { place = f.mem; item = f.memory; at = f.at_memory; has = inner }) in
