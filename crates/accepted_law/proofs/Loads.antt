@@ -1,14 +1,10 @@
 -- A register of a flip-flop that ends a frame with "after" was loaded from nets with "after" alone: a load
 -- from others takes its mark away for the rest of the frame.
-use Rattle.std.proofs.Common.{◌≡◌, ℕ, zero, suc, ◌<◌, arith, Bool, true, false, not, List, [], ◌∷◌, length, refl, subst, sym, ap, ◌∙◌, inl, inr, if◌then◌else◌}
+use Rattle.std.proofs.Common.{◌≡◌, ℕ, zero, suc, Bool, true, false, not, List, [], ◌∷◌, length, refl, subst, sym, ap, ◌∙◌, inl, inr, if◌then◌else◌}
 use Rattle.std.specs.Prelude.{◌==◌, ◌&&◌, ◌||◌, ◌⊎◌, Option, Some, None, slice_get, unwrap_or, is_some, position, option_map, option_and_then, flat_map}
-use Rattle.std.specs.Option.{option_or, option_map_or}
+use Rattle.std.specs.Option.{option_or}
 use Rattle.std.proofs.lemmas.Option.{none-some, same_Some}
-use Rattle.id_arena.specs.declared.keys.ChipId.{ChipId}
 use Rattle.id_arena.specs.declared.keys.ChipNetId.{ChipNetId}
-use Rattle.id_arena.specs.declared.keys.MemId.{MemId}
-use Rattle.id_arena.specs.declared.keys.NetId.{NetId}
-use Rattle.id_arena.specs.declared.keys.RegId.{RegId}
 use Rattle.id_arena.specs.declared.wire.Wire.{Wire}
 use Rattle.design_core.specs.declared.node.NodeId.{NodeId}
 use Rattle.design_core.specs.declared.node.NodeId.TheVariants as node
@@ -32,7 +28,7 @@ use Rattle.history_law.proofs.Lists.{Has, has_under, positioned}
 use Rattle.history_law.proofs.Naming.{same_number as equal_numbers}
 use Rattle.agreement_law.specs.Slots.{ActionsFit}
 use Rattle.agreement_law.proofs.Given.{on_both}
-use Rattle.slot_law.proofs.Targets.{RegisterAt, BitAt, no_gate, same_register, no_bit, on_register_net}
+use Rattle.slot_law.proofs.Targets.{RegisterAt, BitAt, same_register, no_bit, on_register_net}
 use Rattle.slot_law.proofs.Memories.{read_port_at}
 
 -- ## Where all actions that give anything give the same

@@ -186,7 +186,7 @@ read_counted chip n f =
     counted (is_chip_net n) (read_nets chip) whole.place f.net whole.at (equal_numbers f.net.place n f.same)
 
 module _ (c : Case) (is : IsCase c) where
-  one_driver : (chip n : ℕ) (what : Subject) → subject c.results chip n ≡ Some what → net_drivers (chip_at c.results.net chip) n ≡ 1
+  pub one_driver : (chip n : ℕ) (what : Subject) → subject c.results chip n ≡ Some what → net_drivers (chip_at c.results.net chip) n ≡ 1
   one_driver chip n what h = is.netlist chip n (subject_in_range c.results is.mapped chip n what h)
 
   -- the Q of a register has no gate
