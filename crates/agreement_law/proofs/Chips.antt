@@ -152,7 +152,7 @@ module _ (p : Parts) (d : IsDesign p) (r : Results) (c : ℕ) where
       all_at (λ (w, port). read_fits r c w port) (zip design.0.reads memory.reads) i (original.0, port) (right _ _ design.2) (zip_at design.0.reads memory.reads i original.0 port original.1 at) in
       let of = have_subjects_at r c port.bits (map Net original.0.bits) b n (right _ _ fits) in_port in
       let net = at_map Net original.0.bits b of.0 of.1 in
-      (net.0, of.2 ∙ ap Some (sym net.2), (read_bit_is_driver p entry.of.place i b design.0 original.0 net.0 d design.1 original.1 net.1).0)
+      (net.0, of.2 ∙ ap Some net.2, (read_bit_is_driver p entry.of.place i b design.0 original.0 net.0 d design.1 original.1 net.1).0)
 
 -- ## What drives a net
 

@@ -86,9 +86,9 @@ at_same_place xs (y ∷ ys) k x long at =
     let short : k < length (y ∷ ys) = subst (λ (n : ℕ). k < n) long within in
     (get_or (y ∷ ys) k y, slice_get-get_or (y ∷ ys) k y short)
 
-pub at_map : {X : Type 0} {Y : Type 0} (f : X → Y) (xs : List X) (k : ℕ) (y : Y) → slice_get (map f xs) k ≡ Some y → (x : X) × (slice_get xs k ≡ Some x) × (f x ≡ y)
+pub at_map : {X : Type 0} {Y : Type 0} (f : X → Y) (xs : List X) (k : ℕ) (y : Y) → slice_get (map f xs) k ≡ Some y → (x : X) × (slice_get xs k ≡ Some x) × (y ≡ f x)
 at_map f [] k y at = absurd (none-some y at)
-at_map f (x ∷ xs) zero y at = (x, refl, same_Some (f x) y at)
+at_map f (x ∷ xs) zero y at = (x, refl, sym (same_Some (f x) y at))
 at_map f (x ∷ xs) (suc k) y at = at_map f xs k y at
 
 -- where one of three counts is 1, one of them is not 0
