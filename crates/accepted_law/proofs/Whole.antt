@@ -8,7 +8,8 @@ use Rattle.emu_machine.specs.Law.{IsCase, AcceptedAgrees}
 use Rattle.one_history.proofs.Alone.{one_history}
 use Rattle.agreement_law.proofs.Accepted.{actions_fit, has_its_frame}
 use Rattle.agreement_law.proofs.FrameEnd.{parts_fit}
-use Rattle.agreement_law.proofs.Runs.{FramesSample, SlotsKeep, facts_of, frame_starts, headline}
+use Rattle.agreement_law.proofs.Runs.{facts_of, frame_starts, slots_give_agreement}
+use Rattle.agreement_law.specs.Agreement.{SlotsKeep, FramesSample}
 use Rattle.slot_law.proofs.Together.{slot_keeps_marks}
 use Rattle.accepted_law.proofs.Sampled.{slots_sampled}
 
@@ -33,5 +34,5 @@ module _ (c : Case) (is : IsCase c) (accepted : IsAccepted c) where
 
 pub accepted_agrees : AcceptedAgrees
 accepted_agrees c is accepted =
-    headline c is accepted (slots_keep c is accepted) (frames_sample c is accepted)
+    slots_give_agreement c is accepted (slots_keep c is accepted) (frames_sample c is accepted)
     (λ o events opening fits. one_history c.design o (event_values events) is.design is.ranked opening)

@@ -1,7 +1,6 @@
 pub mod Places
 pub mod Given
 pub mod Groups
-pub mod TakenIn
 pub mod Chips
 pub mod Accepted
 pub mod EventTruth
@@ -10,4 +9,3 @@ pub mod FrameEnd
 pub mod Shown
 pub mod OneUse
 pub mod Runs
-pub mod PlainRuns

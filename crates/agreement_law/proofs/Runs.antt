@@ -1,20 +1,18 @@
 -- Where slots keep true marks true and frames take sampled data, a machine runs together with a history.
-use Rattle.std.proofs.Common.{◌≡◌, ℕ, suc, List, [], ◌∷◌, refl}
-use Rattle.std.specs.Prelude.{Some, slice_get}
+use Rattle.std.proofs.Common.{ℕ, suc, List, [], ◌∷◌, refl}
 use Rattle.design_core.specs.declared.values.Event.{Event}
 use Rattle.design_core.specs.Valuation.{Valuation}
 use Rattle.design_core.specs.Settled.{IsSettled}
 use Rattle.design_core.specs.Event.{IsAfter, Follow}
-use Rattle.emu_machine.specs.declared.schedule.Slot.{Slot}
 use Rattle.emu_machine.specs.State.{State, present, frame_slots, after_frame}
 use Rattle.emu_machine.specs.Mapped.{IsLoaded}
 use Rattle.emu_machine.specs.Marks.{start_marks}
 use Rattle.emu_machine.specs.Acceptance.{Case, IsAccepted}
-use Rattle.emu_machine.specs.Headline.{EventFits, EventsFit, event_values, IsSampled, RunsTogether, Headline}
+use Rattle.emu_machine.specs.Headline.{EventFits, EventsFit, event_values, RunsTogether, Headline}
 use Rattle.emu_machine.specs.Law.{IsCase}
 use Rattle.marks_law.specs.Facts.{EventFacts}
-use Rattle.agreement_law.specs.Slots.{StateTrue, KeepsMarks}
-use Rattle.agreement_law.specs.Agreement.{HistoriesAreOne}
+use Rattle.agreement_law.specs.Slots.{StateTrue}
+use Rattle.agreement_law.specs.Agreement.{SlotsKeep, FramesSample, HistoriesAreOne, SlotsGiveAgreement}
 use Rattle.history_law.proofs.Following.{events_keep_settled}
 use Rattle.agreement_law.proofs.EventTruth.{event_facts}
 use Rattle.agreement_law.proofs.FrameStart.{start_true}
@@ -22,17 +20,6 @@ use Rattle.agreement_law.proofs.FrameEnd.{slots_keep, end_loaded}
 use Rattle.agreement_law.proofs.Accepted.{actions_fit, has_its_frame}
 use Rattle.agreement_law.proofs.Shown.{agrees}
 use Rattle.agreement_law.proofs.OneUse.{wire_once}
-
--- whatever event of whatever settled valuation comes to a machine that is loaded from it, its frame takes sampled data
-abbrev pub FramesSample : Case → Type 0
-FramesSample c =
-    (event : Event) (v w : Valuation) (x : State)
-    → EventFits c event → IsSettled c.design v → IsAfter c.design v event.values w → IsLoaded c.design c.results v x
-    → IsSampled c event v w x
-
--- the slots of every frame keep true marks true
-abbrev pub SlotsKeep : Case → Type 0
-SlotsKeep c = (k t : ℕ) (slot : Slot) → slice_get (frame_slots c.results k) t ≡ Some slot → KeepsMarks c k slot.actions
 
 module _ (c : Case) (is : IsCase c) (accepted : IsAccepted c) where
   pub facts_of : (event : Event) (v w : Valuation) → EventFits c event → IsSettled c.design v → IsAfter c.design v event.values w → EventFacts c.design (accepted.inside event.group.place) v event.values w
@@ -69,10 +56,13 @@ module _ (c : Case) (is : IsCase c) (accepted : IsAccepted c) where
             (frame_loads event v w x (fits 0 event refl) settled follow.0 loaded),
       )
 
-      pub headline : HistoriesAreOne c → Headline c
+      headline : HistoriesAreOne c → Headline c
       headline one =
           record {
             one_history = one;
             together = λ o events v vs x opening fits history loaded. runs events v vs x fits history.0.settled history.1 loaded;
             one_use = λ k t w slot at. wire_once c k slot.actions (actions_fit c accepted.inside accepted.rules k t slot at) w;
           }
+
+pub slots_give_agreement : SlotsGiveAgreement
+slots_give_agreement c is accepted keep sample one = headline c is accepted keep sample one

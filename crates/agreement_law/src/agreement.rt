@@ -1,8 +1,9 @@
-//! That the machine agrees with the design.
+//! That the machine agrees with the design, frame by frame and event by event.
 
-ghost use Rattle.agreement_law.specs.Agreement.{PlainAgrees};
+ghost use Rattle.agreement_law.specs.Agreement.{SlotsGiveAgreement};
 
-/// Where the twelve rules hold and all actions take in from outside, the machine agrees with the design.
-pub fn plain_agrees()
-    ensures { PlainAgrees }
+/// An accepted case agrees with its design, where its slots keep true marks true, its frames take sampled
+/// data, and its histories are one.
+pub fn slots_give_agreement()
+    ensures { SlotsGiveAgreement }
 {}
