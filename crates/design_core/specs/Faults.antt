@@ -78,18 +78,21 @@ abbrev pub parent_earlier : ℕ → Option ℕ → Bool
 parent_earlier s None = true
 parent_earlier s (Some parent) = nat_lt parent s
 
--- Whether what is not an element's own is good: there are the two constants, each element has a path,
--- the nets of ports and the scopes of nets are there, scopes stand in earlier ones, and each memory has
--- an element.
-abbrev pub rest_good : Parts → Bool
-rest_good p =
+-- Whether what stands around the elements is good: there are the two constants, each element has a path,
+-- the nets of ports and the scopes of nets are there, and scopes stand in earlier ones.
+abbrev pub around_good : Parts → Bool
+around_good p =
     nat_le 2 (net_count p)
     && (length p.paths == length p.elements)
     && ports_there (net_count p) p.inputs
     && ports_there (net_count p) p.outputs
     && list_all (λ name. nat_lt name.scope (length p.scopes)) p.net_names
     && list_all (λ (s, scope). parent_earlier s scope.parent) (enumerate_from 0 p.scopes)
-    && list_all (λ (m, memory). nat_lt 0 (count_by (is_memory m) p.elements)) (enumerate_from 0 p.memories)
+
+-- whether all but the elements is good: what stands around them, and each memory has an element
+abbrev pub rest_good : Parts → Bool
+rest_good p =
+    around_good p && list_all (λ (m, memory). nat_lt 0 (count_by (is_memory m) p.elements)) (enumerate_from 0 p.memories)
 
 -- what is known, after some elements, of the element that is a memory
 abbrev pub IsOwned : Parts → ℕ → ℕ → Option ElemId → Type 0

@@ -1,11 +1,11 @@
 //! Whether elements, ports and names are good: of their shape, and naming what is there.
 
 ghost use Rattle.std.specs.Prelude.{◌≡◌, ◌==◌, ◌&&◌, ◌+◌, ◌^◌, None, Some, length, nat_le, nat_lt};
-ghost use Rattle.std.specs.List.{list_all};
+ghost use Rattle.std.specs.List.{enumerate_from, list_all};
 ghost use Rattle.design_core.specs.Design.{element_reads, memory_fits, reset_nets, write_reads};
-ghost use Rattle.design_core.specs.Faults.{are_there, element_outputs, inputs_fit, is_there, memory_good, ports_there};
+ghost use Rattle.design_core.specs.Faults.{are_there, around_good, element_outputs, inputs_fit, is_there, memory_good, parent_earlier, ports_there};
 
-use crate::{Element, Level, Memory, Op, Port, ReadPort, WritePort};
+use crate::{Element, Level, Memory, NetName, Op, Parts, Port, ReadPort, Scope, WritePort};
 use id_arena::{Key, NetId};
 
 /// Whether a net is there, among so many.
@@ -23,7 +23,7 @@ fn are_there(nets: u64, named: &[NetId]) -> bool
 }
 
 /// Whether the nets of all these ports are there.
-pub(crate) fn ports_there(nets: u64, ports: &[Port]) -> bool
+fn ports_there(nets: u64, ports: &[Port]) -> bool
     ensures { result ≡ ports_there nets ports.now }
 {
     ports.iter().all(|port| are_there(nets, port.nets.as_slice()))
@@ -169,4 +169,46 @@ pub(crate) fn memory_good(nets: u64, memory: &Memory) -> bool
     memory_fits(memory)
         && writes_there(nets, memory.writes.as_slice())
         && reads_there(nets, memory.reads.as_slice())
+}
+
+/// Whether the scopes of all nets are there.
+fn scopes_there(names: &[NetName], scopes: u64) -> bool
+    ensures { result ≡ list_all (λ name. nat_lt name.scope scopes) names.now }
+{
+    names.iter().all(|name| u64::from(name.scope) < scopes)
+}
+
+/// Whether the scope around a scope is an earlier one.
+fn parent_earlier(place: u64, parent: Option<u32>) -> bool
+    ensures { result ≡ parent_earlier place parent }
+{
+    match parent {
+        None => true,
+        Some(parent) => u64::from(parent) < place,
+    }
+}
+
+/// Whether the scopes around all scopes are earlier ones.
+fn parents_earlier(scopes: &[Scope]) -> bool
+    ensures { result ≡ list_all (λ (s, scope). parent_earlier s scope.parent) (enumerate_from 0 scopes.now) }
+{
+    'scopes: for (place, scope) in scopes.iter().enumerate() {
+        if !parent_earlier(place as u64, scope.parent) {
+            return false;
+        }
+    }
+    true
+}
+
+/// Whether what stands around the elements is good.
+pub(crate) fn around_good(parts: &Parts) -> bool
+    ensures { result ≡ around_good parts.now }
+{
+    let nets = parts.net_names.len();
+    nets >= 2
+        && parts.paths.len() == parts.elements.len()
+        && ports_there(nets, parts.inputs.as_slice())
+        && ports_there(nets, parts.outputs.as_slice())
+        && scopes_there(parts.net_names.as_slice(), parts.scopes.len())
+        && parents_earlier(parts.scopes.as_slice())
 }

@@ -1,6 +1,7 @@
 //! Which element is which memory, found while elements are judged one by one.
 
-ghost use Rattle.std.specs.Prelude.{◌≡◌, ◌&&◌, ◌<◌, ◌≤◌, ℕ, None, IfErr, IfOk, IsTrue, Option, Some, length, replicate, slice_get, take, true};
+ghost use Rattle.std.specs.Prelude.{◌≡◌, ◌&&◌, ◌<◌, ◌≤◌, ℕ, None, IfErr, IfOk, IsTrue, MatchOption, Option, Some, false, is_some, map, length, replicate, slice_get, take, true};
+ghost use Rattle.std.specs.List.{list_all};
 ghost use Rattle.design_core.specs.Faults.{AreOwned, TellsBad, claimed, claims_within, element_good, is_free, memory_good, place_good, scope_there, shape_good};
 ghost use Rattle.design_core.specs.Design.{net_count};
 ghost use Rattle.design_core.specs.Limits.{IsCountable};
@@ -105,4 +106,23 @@ pub(crate) fn owners_of(alloc: Global, parts: &Parts) -> Result<Vec<Option<ElemI
         claim(&mut owners, id, element);
     }
     Ok(owners)
+}
+
+/// The element of each memory; None where a memory has none.
+pub(crate) fn all_owners(
+    alloc: Global,
+    owners: &[Option<ElemId>],
+) -> Result<Option<Vec<ElemId>>, NoMemory>
+    ensures { IfOk result (λ found. MatchOption found
+        (list_all is_some owners.now ≡ false)
+        (λ elems. map Some elems.items ≡ owners.now)) }
+{
+    let mut elems = Vec::with_capacity(alloc, owners.len())?;
+    'memories: for owner in owners {
+        let Some(elem) = owner else {
+            return Ok(None);
+        };
+        elems.push(*elem)?;
+    }
+    Ok(Some(elems))
 }
