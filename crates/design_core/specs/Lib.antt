@@ -6,3 +6,9 @@ pub mod Settled
 pub mod Event
 pub mod Influence
 pub mod OneGate
+pub mod Limits
+pub mod Names
+pub mod Tables
+pub mod Weight
+pub mod Faults
+pub mod Drives
