@@ -10,9 +10,11 @@ mod design;
 mod drives;
 mod element;
 mod fault;
+mod good;
 mod node;
 mod one_gate;
 mod operation;
+mod owners;
 mod parts;
 mod values;
 
