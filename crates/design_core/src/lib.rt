@@ -11,6 +11,7 @@ mod drives;
 mod element;
 mod fault;
 mod good;
+mod limits;
 mod node;
 mod one_gate;
 mod operation;
