@@ -12,3 +12,4 @@ pub mod Tables
 pub mod Weight
 pub mod Faults
 pub mod Drives
+pub mod Reads

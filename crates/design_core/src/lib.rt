@@ -17,6 +17,7 @@ mod one_gate;
 mod operation;
 mod owners;
 mod parts;
+mod reads;
 mod values;
 
 pub use design::Design;
