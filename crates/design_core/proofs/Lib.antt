@@ -3,3 +3,4 @@ pub mod Filling
 pub mod Powers
 pub mod Owning
 pub mod Lowest
+pub mod Outwards

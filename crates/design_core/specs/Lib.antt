@@ -13,3 +13,4 @@ pub mod Weight
 pub mod Faults
 pub mod Drives
 pub mod Reads
+pub mod Trails

@@ -12,6 +12,7 @@ mod element;
 mod fault;
 mod good;
 mod limits;
+mod names;
 mod node;
 mod one_gate;
 mod operation;
