@@ -2,3 +2,5 @@ pub mod Bounds
 pub mod Filling
 pub mod Powers
 pub mod Owning
+pub mod Lowest
+pub mod Outwards

@@ -2,6 +2,7 @@
 
 ghost use Rattle.std.specs.Prelude.{◌≡◌, ◌<◌, ◌≤◌, IsTrue, Some, length, option_map, slice_get};
 
+use crate::limits::word_number;
 use crate::{Driver, Element, Memory, Parts, Port};
 use emu_io::List;
 use id_arena::{ElemId, Key, MemId, NetId};
@@ -142,6 +143,6 @@ impl Design {
         ensures { option_map memory_weight (slice_get self.now.memories id.place) ≡ Some result }
     {
         let memory = self.mem(id);
-        (1 << memory.address_bits) * u64::from(memory.width)
+        word_number(memory) * u64::from(memory.width)
     }
 }

@@ -11,11 +11,14 @@ mod drives;
 mod element;
 mod fault;
 mod good;
+mod limits;
+mod names;
 mod node;
 mod one_gate;
 mod operation;
 mod owners;
 mod parts;
+mod reads;
 mod values;
 
 pub use design::Design;
