@@ -177,9 +177,9 @@ after_constants p n =
     found_append (λ (d : Drive). d.driver) (is_of n) (input_drives p.inputs) (elements_drives 0 p.elements ++ memories_drives p.memories)
     ∙ ap (λ o. option_or o (first_of n (elements_drives 0 p.elements ++ memories_drives p.memories))) (inputs_found n p.inputs)
     ∙ ap (option_or (if includes (port_bits p.inputs) n then Some Input else None))
-      (found_append (λ (d : Drive). d.driver) (is_of n) (elements_drives 0 p.elements) (memories_drives p.memories)
-      ∙ ap (λ o. option_or o (first_of n (memories_drives p.memories))) (elements_found n p.elements)
-      ∙ ap (option_or (option_map element_driver (position (drives n) p.elements))) (memories_found n p))
+    (found_append (λ (d : Drive). d.driver) (is_of n) (elements_drives 0 p.elements) (memories_drives p.memories)
+    ∙ ap (λ o. option_or o (first_of n (memories_drives p.memories))) (elements_found n p.elements)
+    ∙ ap (option_or (option_map element_driver (position (drives n) p.elements))) (memories_found n p))
 
 or_unwrap : {X : Type 0} (b : Bool) (x d : X) (o : Option X) → unwrap_or (option_or (if b then Some x else None) o) d ≡ (if b then x else unwrap_or o d)
 or_unwrap true x d o = refl

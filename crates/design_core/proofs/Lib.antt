@@ -10,3 +10,4 @@ pub mod Sole
 pub mod Ranges
 pub mod Undriven
 pub mod Goodness
+pub mod Singles

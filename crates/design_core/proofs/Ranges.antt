@@ -58,7 +58,7 @@ memory_there : (nets m : ℕ) (memory : Memory) → memory_good nets (Some memor
 memory_there nets m memory good =
     all_flat_from (drives_there nets) (λ (x : ℕ × ReadPort). port_drives m x.0 x.1.bits) (λ (port : ReadPort). are_there nets port.address && are_there nets port.bits) 0 memory.reads
     (λ r port fine.
-        all_map_from (drives_there nets) (λ (x : ℕ × NetId). drive_of (Read (record { place = m }) r x.0) x.1) (is_there nets) 0 port.bits (λ b n. refl) (and_parts (are_there nets port.address) (are_there nets port.bits) fine).1)
+    all_map_from (drives_there nets) (λ (x : ℕ × NetId). drive_of (Read (record { place = m }) r x.0) x.1) (is_there nets) 0 port.bits (λ b n. refl) (and_parts (are_there nets port.address) (are_there nets port.bits) fine).1)
     (and_parts (memory_fits memory && list_all (λ port. are_there nets (write_reads port)) memory.writes) (list_all (λ port. are_there nets port.address && are_there nets port.bits) memory.reads) good).1
 
 memories_there : (nets : ℕ) (memories : List Memory) → list_all (λ memory. memory_good nets (Some memory)) memories ≡ true → list_all (drives_there nets) (memories_drives memories) ≡ true

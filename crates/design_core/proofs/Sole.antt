@@ -34,7 +34,7 @@ told p table n is within =
     let size : length (replicate (net_count p) Never) ≡ net_count p = length-replicate (net_count p) Never in
     let empty : get_or (replicate (net_count p) Never) n Never ≡ Never = get_or-replicate (net_count p) n Never Never within in
     let here : get_or table n Never ≡ driven_by n (drives_of p) Never =
-        ap (λ t. get_or t n Never) is ∙ entry n (drives_of p) start (omega (arith, size, within)) ∙ ap (driven_by n (drives_of p)) empty in
+    ap (λ t. get_or t n Never) is ∙ entry n (drives_of p) start (omega (arith, size, within)) ∙ ap (driven_by n (drives_of p)) empty in
     rw (here, ← counted p n) (tells n (drives_of p))
 
 -- a driver that an entry tells is the net's
@@ -102,11 +102,13 @@ are_once p table drivers is ranged are n = elim (cases_lt n (net_count p)) [
 pub least_twice : (p : Parts) (table : List Driven) (n : ℕ) → IsTableOf p table → IsFirstTwice table n → (n < net_count p) × IsLeastTwice p n
 least_twice p table n is first =
     let size = table_length p table is in
-    let within : n < net_count p = omega (arith, size, first.within) in
-    (within, record {
-      here = twice_told (driver_count p n) (get_or table n Never) (first_of n (drives_of p)) (told p table n is within) first.here;
-      earlier = λ m below. once_told (driver_count p m) (get_or table m Never) (first_of m (drives_of p)) (told p table m is (omega (arith, below, within))) (first.earlier m below)
-    })
+    let within : n < net_count p = omega (arith, size, first.within) in (
+      within,
+      record {
+        here = twice_told (driver_count p n) (get_or table n Never) (first_of n (drives_of p)) (told p table n is within) first.here;
+        earlier = λ m below. once_told (driver_count p m) (get_or table m Never) (first_of m (drives_of p)) (told p table m is (omega (arith, below, within))) (first.earlier m below);
+      },
+    )
 
 -- whether nothing drives a net that is there
 pub never_is : (p : Parts) (table : List Driven) (n : ℕ) → IsTableOf p table → n < net_count p → never_at table n ≡ (driver_count p n == 0)

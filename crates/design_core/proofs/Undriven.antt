@@ -78,11 +78,11 @@ lowest_is : (table : List Driven) (least : Option NetId) (nets : List NetId) (m 
 lowest_is table least [] m is = inl is
 lowest_is table least (x ∷ xs) m is = elim (lowest_is table (lower table least x) xs m is) [
   | inl before ↦ elim (lower_is table least x m before) [
-      | inl older ↦ inl older
-      | inr h ↦
-          let same : x.place ≡ m.place = ap (λ (k : NetId). k.place) h.0 in
-          inr (or_left (is_net m.place x) (includes xs m.place) (eq-eqb x.place m.place same), rw (← same) h.1)
-    ]
+    | inl older ↦ inl older
+    | inr h ↦
+        let same : x.place ≡ m.place = ap (λ (k : NetId). k.place) h.0 in
+        inr (or_left (is_net m.place x) (includes xs m.place) (eq-eqb x.place m.place same), rw (← same) h.1)
+  ]
   | inr h ↦ inr (or_right (is_net m.place x) (includes xs m.place) h.0, h.1)
 ]
 
@@ -104,13 +104,15 @@ pub least_undriven : (p : Parts) (table : List Driven) (m : NetId) → IsTableOf
 least_undriven p table m is there found = elim (lowest_is table None (nets_read p) m found) [
   | inl before ↦ absurd (cc)
   | inr h ↦
-      let within = read_there p there m.place h.0 in
-      (within, record {
-        here = and_from (includes (nets_read p) m.place) (driver_count p m.place == 0) h.0 (sym (never_is p table m.place is within) ∙ h.1);
-        earlier = λ n below. false_from_ne_true (is_undriven p n) (λ bad.
-            let free = free_read p table n is there bad in
-            let small = lowest_takes table None (nets_read p) n free.0 free.1 in
-            let small-2 : m.place ≤ n = rw found at small in
-            omega (arith, small-2, below))
-      })
+      let within = read_there p there m.place h.0 in (
+        within,
+        record {
+          here = and_from (includes (nets_read p) m.place) (driver_count p m.place == 0) h.0 (sym (never_is p table m.place is within) ∙ h.1);
+          earlier = λ n below. false_from_ne_true (is_undriven p n) (λ bad.
+              let free = free_read p table n is there bad in
+              let small = lowest_takes table None (nets_read p) n free.0 free.1 in
+              let small-2 : m.place ≤ n = rw found at small in
+              omega (arith, small-2, below));
+        },
+      )
 ]

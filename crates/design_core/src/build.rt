@@ -6,17 +6,47 @@ ghost use Rattle.design_core.specs.Limits.{IsCountable};
 ghost use Rattle.design_core.specs.Names.{IsNamed};
 ghost use Rattle.design_core.specs.Tables.{AreDrivers, AreOwners};
 
-use crate::drives::{driven_nets, drivers_of, TableFault};
+use crate::drives::{TableFault, driven_nets, drivers_of};
 use crate::good::around_good;
+use crate::limits::limit_passed;
 use crate::names::net_text;
 use crate::owners::{all_owners, owners_of};
 use crate::reads::least_undriven;
-use crate::{DesignFault, Driver, Parts};
+use crate::{Design, DesignFault, Driver, Parts};
 use id_arena::{ElemId, Key};
 use std::alloc::Global;
 
+impl Design {
+    ghost use Rattle.std.specs.Prelude.{◌≡◌};
+    ghost use Rattle.design_core.specs.Faults.{Answers};
+    ghost use Rattle.design_core.specs.Limits.{IsCountable};
+
+    /// The design of these parts. It takes them in each case.
+    ///
+    /// A fault is the first of these: an element that is bad, at the least element; something else
+    /// that is bad, told with the number of elements; a limit passed, of inputs, nets, elements and
+    /// words in this order; the least net with two drivers; the least net that is read and has none.
+    pub fn build(alloc: Global, parts: Parts) -> Result<Design, DesignFault>
+        requires { IsCountable parts }
+        ensures { Answers parts result }
+    {
+        let owners = match good_owners(alloc, &parts) {
+            Ok(owners) => owners,
+            Err(fault) => return Err(fault),
+        };
+        if let Some(which) = limit_passed(&parts) {
+            return Err(DesignFault::Limit { which });
+        }
+        let drivers = match sole_drivers(alloc, &parts) {
+            Ok(drivers) => drivers,
+            Err(fault) => return Err(fault),
+        };
+        Ok(Design::from_parts(parts, drivers, owners))
+    }
+}
+
 /// The element of each memory, where the parts are good.
-pub(crate) fn good_owners(alloc: Global, parts: &Parts) -> Result<Vec<ElemId>, DesignFault>
+fn good_owners(alloc: Global, parts: &Parts) -> Result<Vec<ElemId>, DesignFault>
     requires { IsCountable parts.now }
     ensures good { IfOk result (λ owners. AreGood parts.now) }
     ensures single { IfOk result (λ owners. AreSingle parts.now) }
@@ -35,7 +65,7 @@ pub(crate) fn good_owners(alloc: Global, parts: &Parts) -> Result<Vec<ElemId>, D
 }
 
 /// The driver of each net, where no net has two, and each that is read has one.
-pub(crate) fn sole_drivers(alloc: Global, parts: &Parts) -> Result<Vec<Driver>, DesignFault>
+fn sole_drivers(alloc: Global, parts: &Parts) -> Result<Vec<Driver>, DesignFault>
     requires there { AreThere parts.now }
     requires named { IsNamed parts.now }
     requires few { IsCountable parts.now }

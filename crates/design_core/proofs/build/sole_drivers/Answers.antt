@@ -47,5 +47,5 @@ returns c =
       drivers = are_drivers p table c.in-Ok.drivers.items c.in_ok-table.ensures are;
       once = are_once p table c.in-Ok.drivers.items c.in_ok-table.ensures (in_range p c.requires.there) are;
       driven = none_undriven p table c.in_ok-table.ensures c.requires.there none;
-      fault = tt
+      fault = tt;
     }
