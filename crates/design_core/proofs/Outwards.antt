@@ -42,7 +42,7 @@ pub goes_on : (scopes : List Scope) (from place parent : ℕ) (trail longer : Li
 goes_on scopes from place parent trail longer there more around before outer rest =
     let here = before (name_at scopes place ∷ outer) (inside_at scopes place parent outer there around rest) in
     let same : map (name_at scopes) longer ++ outer ≡ map (name_at scopes) trail ++ name_at scopes place ∷ outer =
-        ap (λ l. map (name_at scopes) l ++ outer) more ∙ ap (λ l. l ++ outer) (map-append (name_at scopes) trail (place ∷ [])) ∙ append_assoc (map (name_at scopes) trail) (name_at scopes place ∷ []) outer in
+    ap (λ l. map (name_at scopes) l ++ outer) more ∙ ap (λ l. l ++ outer) (map-append (name_at scopes) trail (place ∷ [])) ∙ append_assoc (map (name_at scopes) trail) (name_at scopes place ∷ []) outer in
     subst (λ l. IsTrail scopes from l) (sym same) here
 
 -- the trail that ends at the top
@@ -77,11 +77,11 @@ inward scopes trail w place d text new within item before made =
     let rest = drop (length trail - w) trail in
     let item-2 : place ≡ get_or trail (length trail - (w + 1)) d = item ∙ ap (λ i. get_or trail i d) at-place in
     let step : drop (length trail - (w + 1)) trail ≡ place ∷ drop (length trail - w) trail =
-        drop_more trail (length trail - (w + 1)) d there
-        ∙ ap (λ x. x ∷ drop (length trail - (w + 1) + 1) trail) (sym item-2)
-        ∙ ap (λ i. place ∷ drop i trail) next in
+    drop_more trail (length trail - (w + 1)) d there
+    ∙ ap (λ x. x ∷ drop (length trail - (w + 1) + 1) trail) (sym item-2)
+    ∙ ap (λ i. place ∷ drop i trail) next in
     let size : length (map (name_at scopes) (drop (length trail - w) trail)) ≡ w =
-        length-map (drop (length trail - w) trail) (name_at scopes) ∙ length-drop (length trail - w) trail ∙ omega (arith, within) in
+    length-map (drop (length trail - w) trail) (name_at scopes) ∙ length-drop (length trail - w) trail ∙ omega (arith, within) in
     rw (step, separator_at (map (name_at scopes) (drop (length trail - w) trail)) w size, ← before) made
 
 -- the separators of a path
@@ -106,10 +106,10 @@ pub written_is : (trail : List (List ℕ)) → written_path trail ≡ path_of tr
 written_is [] = refl
 written_is (name ∷ outer) =
     let whole : path_of (name ∷ outer) ≡ path_of outer ++ (separator outer ++ escaped name) =
-        ap (λ l. join_with_byte 47 (map escaped l)) (reverse_more name outer)
-        ∙ ap (join_with_byte 47) (map-append escaped (reverse outer) (name ∷ []))
-        ∙ join_more (map escaped (reverse outer)) (escaped name)
-        ∙ ap (λ s. path_of outer ++ (s ++ escaped name)) (separator_turned outer) in
+    ap (λ l. join_with_byte 47 (map escaped l)) (reverse_more name outer)
+    ∙ ap (join_with_byte 47) (map-append escaped (reverse outer) (name ∷ []))
+    ∙ join_more (map escaped (reverse outer)) (escaped name)
+    ∙ ap (λ s. path_of outer ++ (s ++ escaped name)) (separator_turned outer) in
     ap (λ l. l ++ (separator outer ++ escaped name)) (written_is outer) ∙ sym whole
 
 -- the text when all is written

@@ -6,6 +6,7 @@
 //! speaks of these alone.
 #![tactic(auto)]
 
+mod build;
 mod design;
 mod drives;
 mod element;

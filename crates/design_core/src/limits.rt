@@ -9,7 +9,9 @@ ghost use Rattle.design_core.specs.Limits.{IsWithin, inputs_within, most_inputs}
 use crate::{Element, LimitKind, Memory, Op, Parts};
 
 const MOST_NETS: u64 = 400_000;
+
 const MOST_ELEMENTS: u64 = 200_000;
+
 const MOST_WORDS: u64 = 4_194_304;
 
 /// How many inputs a gate may have.

@@ -64,7 +64,12 @@ fn push_index(text: &mut Vec<u8>, index: Option<u32>) -> Result<(), NoMemory>
 }
 
 /// Appends what stands between the path of the scopes around and a name, and the name.
-fn push_name(text: &mut Vec<u8>, scopes: &[Scope], place: u32, outermost: bool) -> Result<(), NoMemory>
+fn push_name(
+    text: &mut Vec<u8>,
+    scopes: &[Scope],
+    place: u32,
+    outermost: bool,
+) -> Result<(), NoMemory>
     requires { place < length scopes.now }
     ensures { OnOk result (text.new.items
         ≡ text.old.items ++ ((if outermost then [] else codes "/") ++ escaped (name_at scopes.now place))) }

@@ -87,11 +87,7 @@ fn lowest_element(table: &[Driven], least: Option<NetId>, element: &Element) -> 
 }
 
 /// The same of the nets that all elements read.
-fn lowest_elements(
-    table: &[Driven],
-    least: Option<NetId>,
-    elements: &[Element],
-) -> Option<NetId>
+fn lowest_elements(table: &[Driven], least: Option<NetId>, elements: &[Element]) -> Option<NetId>
     ensures { result ≡ lowest table.now least (flat_map element_reads elements.now) }
 {
     let mut found = least;
@@ -144,11 +140,7 @@ fn lowest_memory(table: &[Driven], least: Option<NetId>, memory: &Memory) -> Opt
 }
 
 /// The same of the nets that all memories read.
-fn lowest_memories(
-    table: &[Driven],
-    least: Option<NetId>,
-    memories: &[Memory],
-) -> Option<NetId>
+fn lowest_memories(table: &[Driven], least: Option<NetId>, memories: &[Memory]) -> Option<NetId>
     ensures { result ≡ lowest table.now least (flat_map memory_reads memories.now) }
 {
     let mut found = least;

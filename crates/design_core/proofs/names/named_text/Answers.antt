@@ -14,8 +14,8 @@ returns c =
     let here : slice_get p.net_names n ≡ Some name = rw at-n at c.get-name.ensures in
     let is-path : IsPathIn p.scopes name.scope path = rw (c.as_slice.ensures) at c.in_ok-text.ensures in
     let same : c.from_vec.result ≡ named_in path name =
-        c.from_vec.ensures
-        ∙ c.in_ok-push_index.ensures
-        ∙ ap (λ t. t ++ index_text name.index)
-          (c.in_ok-extend_from_slice.ensures.items ∙ ap (λ t. t ++ c.bytes.result.now) c.in_ok-push_slash.ensures ∙ ap (λ b. before_name path ++ b) c.bytes.ensures) in
+    c.from_vec.ensures
+    ∙ c.in_ok-push_index.ensures
+    ∙ ap (λ t. t ++ index_text name.index)
+    (c.in_ok-extend_from_slice.ensures.items ∙ ap (λ t. t ++ c.bytes.result.now) c.in_ok-push_slash.ensures ∙ ap (λ b. before_name path ++ b) c.bytes.ensures) in
     net_named p n name path c.from_vec.result c.requires.free here is-path same

@@ -14,7 +14,7 @@ outwards-preserved c =
     record {
       there = omega arith;
       trail = goes_on scopes c.args.from c.outwards.place c.in-Some.parent c.outwards.trail.items c.push.new.self.items there c.in_ok-push.ensures.items (sym c.in-Some.ensures) c.outwards.invariant.trail;
-      scopes = still_scopes scopes c.outwards.trail.items c.push.new.self.items c.outwards.place c.in_ok-push.ensures.items there c.outwards.invariant.scopes
+      scopes = still_scopes scopes c.outwards.trail.items c.push.new.self.items c.outwards.place c.in_ok-push.ensures.items there c.outwards.invariant.scopes;
     }
 
 pub returns-clause-trail : goal.returns-clause-trail

@@ -8,7 +8,7 @@ abbrev pub invariant-outwards : goal.invariant-outwards
 invariant-outwards l = record {
   there : l.place < length l.scopes;
   trail : (outer : List (List ℕ)) → IsTrail l.scopes l.place outer → IsTrail l.scopes l.from (map (name_at l.scopes) l.trail.items ++ outer);
-  scopes : AreScopes l.scopes l.trail.items
+  scopes : AreScopes l.scopes l.trail.items;
 }
 
 abbrev pub decreases-outwards : goal.decreases-outwards

@@ -6,4 +6,4 @@ use Rattle.design_core.specs.Reads.{lowest}
 use Rattle.design_core.proofs.reads.lowest.Given as goal
 
 abbrev pub invariant-nets : goal.invariant-nets
-invariant-nets l = lowest l.table l.found ( (drop l.net-index l.nets)) ≡ lowest l.table l.initial.found ( l.nets)
+invariant-nets l = lowest l.table l.found ((drop l.net-index l.nets)) ≡ lowest l.table l.initial.found (l.nets)
