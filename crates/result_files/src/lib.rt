@@ -9,6 +9,7 @@
 mod fault;
 mod one_action_schedule;
 mod one_gate_netlist;
+mod tree_list;
 mod trees;
 mod two_net_map;
 
