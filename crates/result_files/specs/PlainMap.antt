@@ -1,7 +1,7 @@
 -- The maps of one chip without memories, whose subjects are nets of the design, as texts:
 -- {"version":1,"chips":[{"nets":[["net",N],..],"registers":[BOOL,..],"memories":[]}],"outputs":[[0,N],..]}
 -- The rule is told in docs/FORMATS.md, "The map".
-use Rattle.std.specs.Prelude.{◌≡◌, ℕ, Bool, List, [], ◌∷◌, codes}
+use Rattle.std.specs.Prelude.{◌≡◌, ◌<◌, ℕ, Bool, List, [], ◌∷◌, Some, codes, slice_get}
 use Rattle.serde_json.specs.Data.{Data, boolean, string}
 use Rattle.json_members.specs.JsonText.{IsTextOf}
 use Rattle.emu_machine.specs.declared.map.ChipMap.{ChipMap}
@@ -13,6 +13,7 @@ use Rattle.emu_machine.specs.declared.netlist.Chip.{Chip}
 use Rattle.emu_machine.specs.declared.results.Results.{Results}
 use Rattle.emu_machine.specs.declared.schedule.Schedule.{Schedule}
 use Rattle.emu_machine.specs.Law.{MapFits}
+use Rattle.emu_machine.specs.Netlist.{chip_at}
 use Rattle.result_files.specs.Trees.{list, whole, IsWord, HasMember}
 use Rattle.result_files.specs.Lists.{HasList}
 
@@ -43,11 +44,15 @@ pub record IsEntryTree (tree : Data) (entry : ChipMap) : Type 0 where
   pub memories : HasMember (codes "memories") (list []) tree
   pub none : entry.memories ≡ []
 
--- the tree is of version 1, and has one chip and the list of the outputs
-pub record IsMapTree (tree : Data) (map : StateMap) : Type 0 where
+-- the tree is of version 1 and has one chip
+pub record IsOnlyChip (tree chip : Data) : Type 0 where
   pub version : HasMember (codes "version") (whole 1) tree
-  pub chip : Data
   pub chips : HasMember (codes "chips") (list (chip ∷ [])) tree
+
+-- the tree has one chip and the list of the outputs
+pub record IsMapTree (tree : Data) (map : StateMap) : Type 0 where
+  pub chip : Data
+  pub only : IsOnlyChip tree chip
   pub entry : ChipMap
   pub one : map.chips ≡ entry ∷ []
   pub entry_is : IsEntryTree chip entry
@@ -56,6 +61,14 @@ pub record IsMapTree (tree : Data) (map : StateMap) : Type 0 where
 -- the map fits the results of this one chip, whatever their schedule
 abbrev pub FitsChip : Chip → StateMap → Type 0
 FitsChip chip map = (schedule : Schedule) → MapFits (record { net = chip ∷ []; schedule = schedule; map = map })
+
+-- the net that an output shows is a net of the one chip
+abbrev pub IsThere : Chip → Spot → Type 0
+IsThere chip spot = spot.net.place < (chip_at (chip ∷ []) spot.chip.place).nets
+
+-- so are the nets that all outputs show
+abbrev pub AreThere : Chip → List Spot → Type 0
+AreThere chip outputs = (k : ℕ) (spot : Spot) → slice_get outputs k ≡ Some spot → IsThere chip spot
 
 -- the text is JSON for such a tree, and what it says fits the chip
 pub record SaysMap (bytes : List ℕ) (chip : Chip) (map : StateMap) : Type 0 where
