@@ -4,3 +4,7 @@ pub mod Entries
 pub mod Refusals
 pub mod Schedules
 pub mod Maps
+pub mod Digits
+pub mod Words
+pub mod Numbers
+pub mod Lines

@@ -7,3 +7,6 @@ pub mod Lists
 pub mod PlainSchedule
 pub mod PlainMap
 pub mod PlainNetlist
+pub mod Taken
+pub mod Digits
+pub mod Drivers

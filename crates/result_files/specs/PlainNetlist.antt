@@ -45,17 +45,24 @@ abbrev pub register_words : ℕ × EmuRegister → List Word
 register_words (k, register) =
     name (codes "EHOLD") ∷ numbered (codes "r") k ∷ open_parenthesis ∷ net_word register.q ∷ close_parenthesis ∷ semicolon ∷ []
 
+-- `module chip0;`
+abbrev pub head_words : List Word
+head_words = key MODULE ∷ name (codes "chip0") ∷ semicolon ∷ []
+
 -- the module of the chip: its nets, its gates and its registers, each in the order of the numbers
 abbrev pub netlist_words : Chip → List Word
 netlist_words chip =
-    (key MODULE ∷ name (codes "chip0") ∷ semicolon ∷ []) ++ flat_map wire_words (range_with_len 0 chip.nets)
-    ++ flat_map gate_words (enumerate_from 0 chip.gates) ++ flat_map register_words (enumerate_from 0 chip.registers)
-    ++ key ENDMODULE ∷ []
+    head_words ++ flat_map wire_words (range_with_len 0 chip.nets) ++ flat_map gate_words (enumerate_from 0 chip.gates)
+    ++ flat_map register_words (enumerate_from 0 chip.registers) ++ key ENDMODULE ∷ []
+
+-- the words are those of a plain chip
+pub record IsChipOf (words : List Word) (chip : Chip) : Type 0 where
+  pub words_are : words ≡ netlist_words chip
+  pub plain : IsPlainChip chip
 
 -- the words of the text are those of a plain chip whose nets have one driver each
 pub record SaysChip (source : List ℕ) (tokens : List Token) (chip : Chip) : Type 0 where
-  pub words : words_of source tokens ≡ netlist_words chip
-  pub plain : IsPlainChip chip
+  pub chip_is : IsChipOf (words_of source tokens) chip
   pub driven : IsNetlist (chip ∷ [])
 
 -- fewer than 2^32 tokens stand for at most one chip

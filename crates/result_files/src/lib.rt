@@ -6,11 +6,16 @@
 //! `specs/OneActionSchedule.antt` and `specs/TwoNetMap.antt` give.
 #![tactic(auto)]
 
+mod drivers;
 mod fault;
+mod netlist_line;
+mod numbered;
 mod one_action_schedule;
 mod one_gate_netlist;
 mod plain_map;
+mod plain_netlist;
 mod plain_schedule;
+mod rest;
 mod tree_list;
 mod trees;
 mod two_net_map;
@@ -23,6 +28,7 @@ pub use one_gate_netlist::{
     OneGateNetlist, one_gate_netlists_are_told_apart, read_one_gate_netlist,
 };
 pub use plain_map::{plain_maps_are_told_apart, read_plain_map};
+pub use plain_netlist::{plain_netlists_are_told_apart, read_plain_netlist};
 pub use plain_schedule::{plain_schedules_are_told_apart, read_plain_schedule};
 pub use two_net_map::{TwoNetMap, read_two_net_map, two_net_maps_are_told_apart};
 
