@@ -8,3 +8,7 @@ pub mod Digits
 pub mod Words
 pub mod Numbers
 pub mod Lines
+pub mod Netlists
+pub mod Driven
+pub mod Parts
+pub mod Chips

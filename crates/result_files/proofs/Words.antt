@@ -28,9 +28,9 @@ get_begins F (v ∷ ws) (suc k) b = get_begins F ws k b
 
 pub begins_is : (ws : List Word) (k : ℕ) (w : Word) (before : List Word) (yes-is : Bool) → drop k ws ≡ before → (IsTrue yes-is ↔ (slice_get ws k ≡ Some w)) → IsTrue yes-is ↔ Begins (λ first. first ≡ w) before
 begins_is ws k w before yes-is here tells = (
-    λ t. subst (Begins (λ first. first ≡ w)) here (begins_get (λ first. first ≡ w) ws k w (tells.0 t) refl),
-    λ b. (let found = get_begins (λ first. first ≡ w) ws k (subst (Begins (λ first. first ≡ w)) (sym here) b) in tells.1 (found.1 ∙ ap Some found.2)),
-  )
+  λ t. subst (Begins (λ first. first ≡ w)) here (begins_get (λ first. first ≡ w) ws k w (tells.0 t) refl),
+  λ b. (let found = get_begins (λ first. first ≡ w) ws k (subst (Begins (λ first. first ≡ w)) (sym here) b) in tells.1 (found.1 ∙ ap Some found.2)),
+)
 
 -- the word at a place, and those behind it
 drop_get : (ws : List Word) (k : ℕ) (w : Word) → slice_get ws k ≡ Some w → drop k ws ≡ w ∷ drop (k + 1) ws
@@ -78,6 +78,6 @@ no_number ws k letter before bytes here is none n rest small e =
 -- no word is left where the place is the end
 pub is_end : (ws : List Word) (k count : ℕ) (before : List Word) → drop k ws ≡ before → count ≡ length ws → IsTrue (leb count k) ↔ (before ≡ [])
 is_end ws k count before here size = (
-    λ t. (let past : length ws ≤ k = grind (arith, nat_tests) in sym here ∙ drop_all k ws past),
-    λ e. (let left = length-drop k ws in let none : length (drop k ws) ≡ 0 = rw (here, e) refl in let past : count ≤ k = omega arith in grind (arith, nat_tests)),
-  )
+  λ t. (let past : length ws ≤ k = grind (arith, nat_tests) in sym here ∙ drop_all k ws past),
+  λ e. (let left = length-drop k ws in let none : length (drop k ws) ≡ 0 = rw (here, e) refl in let past : count ≤ k = omega arith in grind (arith, nat_tests)),
+)

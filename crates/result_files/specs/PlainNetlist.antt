@@ -52,8 +52,9 @@ head_words = key MODULE ∷ name (codes "chip0") ∷ semicolon ∷ []
 -- the module of the chip: its nets, its gates and its registers, each in the order of the numbers
 abbrev pub netlist_words : Chip → List Word
 netlist_words chip =
-    head_words ++ flat_map wire_words (range_with_len 0 chip.nets) ++ flat_map gate_words (enumerate_from 0 chip.gates)
-    ++ flat_map register_words (enumerate_from 0 chip.registers) ++ key ENDMODULE ∷ []
+    head_words ++ (flat_map wire_words (range_with_len 0 chip.nets)
+    ++ (flat_map gate_words (enumerate_from 0 chip.gates)
+    ++ (flat_map register_words (enumerate_from 0 chip.registers) ++ key ENDMODULE ∷ [])))
 
 -- the words are those of a plain chip
 pub record IsChipOf (words : List Word) (chip : Chip) : Type 0 where

@@ -14,9 +14,10 @@ pub(crate) fn has_one_driver_each(alloc: Global, chip: &Chip) -> Result<bool, No
     ensures { IfOk result (λ yes. IsTrue yes ↔ IsNetlist (chip.now ∷ [])) }
 {
     let mut drivers = vec![in alloc; 0u8; chip.nets as usize]?;
-    count_gates(chip.gates.as_slice(), drivers.as_mut_slice());
-    count_registers(chip.registers.as_slice(), drivers.as_mut_slice());
-    Ok(are_ones(drivers.as_slice()))
+    let counts = drivers.as_mut_slice();
+    count_gates(chip.gates.as_slice(), counts);
+    count_registers(chip.registers.as_slice(), counts);
+    Ok(are_ones(counts))
 }
 
 /// Adds the gates that drive each net. The counts stand still at 255.

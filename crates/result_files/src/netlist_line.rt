@@ -1,5 +1,7 @@
 //! The lines of a netlist, taken one at a time.
 ghost use Rattle.std.specs.Prelude.{◌≡◌, ◌<◌, ◌^◌, ◌↔◌, ◌∷◌, [], IfOk, IsTrue};
+ghost use Rattle.token_words.specs.Word.{key};
+ghost use Rattle.token_words.specs.declared.keyword.TheConstants.{ENDMODULE as end_word};
 ghost use Rattle.design_core.specs.Plain.{IsPlainOp};
 ghost use Rattle.result_files.specs.PlainNetlist.{numbered, net_word, head_words, wire_words, register_words};
 ghost use Rattle.result_files.specs.Taken.{Begins, IsGateWord, IsNetBelow, IsRegisterBelow, IsLineBelow, Takes, TakesOne, gate_of, line_words, op_words};
@@ -11,7 +13,7 @@ use emu_machine::{EmuGate, EmuRegister};
 use id_arena::ChipNetId;
 use std::alloc::Global;
 use token_words::Word;
-use token_words::keyword::{BUF, MODULE, NOT, WIRE};
+use token_words::keyword::{BUF, ENDMODULE, MODULE, NOT, WIRE};
 
 /// The line of a gate with one input.
 #[derive(Clone, Copy)]
@@ -63,7 +65,11 @@ fn take_op(rest: &mut Rest) -> Option<Op>
     ensures { TakesOne IsPlainOp op_words rest.old rest.new result }
 {
     if rest.begins(&Word::key(BUF)) {
-        return if rest.take(&Word::key(BUF)) { Some(Op::Buf) } else { None };
+        return if rest.take(&Word::key(BUF)) {
+            Some(Op::Buf)
+        } else {
+            None
+        };
     }
     if rest.take(&Word::key(NOT)) {
         Some(Op::Not)
@@ -83,7 +89,9 @@ pub(crate) fn begins_gate(rest: &Rest) -> bool
 pub(crate) fn take_head(rest: &mut Rest) -> bool
     ensures { Takes head_words rest.old rest.new result }
 {
-    rest.take(&Word::key(MODULE)) && rest.take(&Word::name(b"chip0")) && rest.take(&Word::mark(b';'))
+    rest.take(&Word::key(MODULE))
+        && rest.take(&Word::name(b"chip0"))
+        && rest.take(&Word::mark(b';'))
 }
 
 /// Passes over `wire nK;`.
@@ -131,4 +139,11 @@ pub(crate) fn take_register(rest: &mut Rest, number: u32, nets: u32) -> Option<E
         d: None,
         enable: None,
     })
+}
+
+/// Whether the module ends here, and the text with it. Passes over the end.
+pub(crate) fn take_end(rest: &mut Rest) -> bool
+    ensures { IsTrue result ↔ (rest.old ≡ key end_word ∷ []) }
+{
+    rest.take(&Word::key(ENDMODULE)) && rest.is_empty()
 }

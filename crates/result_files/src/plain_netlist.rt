@@ -8,23 +8,19 @@ ghost use Rattle.result_files.specs.Taken.{IsGateWord, IsRegisterWord, IsGateBel
 
 use crate::drivers::has_one_driver_each;
 use crate::fault::FormFault;
-use crate::netlist_line::{begins_gate, take_gate, take_head, take_register, take_wire};
+use crate::netlist_line::{begins_gate, take_end, take_gate, take_head, take_register, take_wire};
 use crate::rest::Rest;
 use emu_io::List;
 use emu_machine::{Chip, EmuGate, EmuRegister};
 use std::alloc::Global;
 use token_words::Word;
-use token_words::keyword::{ENDMODULE, WIRE};
+use token_words::keyword::WIRE;
 use verilog_lex::Tokens;
 
 /// The chip that a text writes down: one module `chip0` with its nets, `buf` and `not` gates, and
 /// registers `EHOLD`, each net with one driver. `tokens` are those of `source`. `NotYet` exactly where
 /// the text writes down no such chip. Takes one pass over the tokens.
-pub fn read_plain_netlist(
-    alloc: Global,
-    source: &[u8],
-    tokens: &Tokens,
-) -> Result<Chip, FormFault>
+pub fn read_plain_netlist(alloc: Global, source: &[u8], tokens: &Tokens) -> Result<Chip, FormFault>
     ensures { Answers (SaysChip source.now tokens.now) result }
 {
     let chip = read_chip(alloc, source, tokens)?;
@@ -53,7 +49,7 @@ fn read_chip(alloc: Global, source: &[u8], tokens: &Tokens) -> Result<Chip, Form
     };
     let gates = take_gates(alloc, &mut rest, nets)?;
     let registers = take_registers(alloc, &mut rest, nets)?;
-    if !rest.take(&Word::key(ENDMODULE)) || !rest.is_empty() {
+    if !take_end(&mut rest) {
         return Err(FormFault::NotYet);
     }
     Ok(Chip {
@@ -96,11 +92,7 @@ fn take_gates(alloc: Global, rest: &mut Rest, nets: u32) -> Result<List<EmuGate>
 }
 
 /// Passes over the registers of a chip with so many nets.
-fn take_registers(
-    alloc: Global,
-    rest: &mut Rest,
-    nets: u32,
-) -> Result<List<EmuRegister>, FormFault>
+fn take_registers(alloc: Global, rest: &mut Rest, nets: u32) -> Result<List<EmuRegister>, FormFault>
     requires { length rest.old < 2 ^ 32 }
     ensures { TakesLines (IsRegisterBelow nets) register_words IsRegisterWord rest.old rest.new result }
 {

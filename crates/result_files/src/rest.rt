@@ -1,5 +1,5 @@
 //! The words of a text that are still to be read.
-ghost use Rattle.std.specs.Prelude.{◌≡◌, ◌↔◌, ◌<◌, ◌^◌, ◌∷◌, [], IsTrue, drop, codes};
+ghost use Rattle.std.specs.Prelude.{◌≡◌, ◌↔◌, ◌<◌, ◌^◌, ◌∷◌, [], IsTrue, drop, codes, length};
 ghost use Rattle.token_words.specs.Word.{key, name};
 ghost use Rattle.token_words.specs.Words.{words_of};
 ghost use Rattle.token_words.specs.declared.keyword.TheConstants.{BUF, NOT, WIRE};
@@ -13,6 +13,7 @@ use token_words::{Word, is_word_at, name_at};
 use verilog_lex::Tokens;
 
 /// The words of a text from a place on; contracts see their list.
+#[derive(Drop)]
 pub(crate) struct Rest<'a> {
     source: &'a [u8],
     tokens: &'a Tokens,
@@ -36,7 +37,8 @@ impl<'a> Model for Rest<'a> {
 impl<'a> Rest<'a> {
     /// All words of a text.
     pub(crate) fn new(source: &'a [u8], tokens: &'a Tokens) -> Rest<'a>
-        ensures { result ≡ words_of source.now tokens.now }
+        ensures words { result ≡ words_of source.now tokens.now }
+        ensures few { length result < 2 ^ 32 }
     {
         Rest {
             source,
