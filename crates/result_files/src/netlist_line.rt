@@ -64,14 +64,9 @@ fn take_net(rest: &mut Rest, nets: u32) -> Option<ChipNetId>
 fn take_op(rest: &mut Rest) -> Option<Op>
     ensures { TakesOne IsPlainOp op_words rest.old rest.new result }
 {
-    if rest.begins(&Word::key(BUF)) {
-        return if rest.take(&Word::key(BUF)) {
-            Some(Op::Buf)
-        } else {
-            None
-        };
-    }
-    if rest.take(&Word::key(NOT)) {
+    if rest.take(&Word::key(BUF)) {
+        Some(Op::Buf)
+    } else if rest.take(&Word::key(NOT)) {
         Some(Op::Not)
     } else {
         None

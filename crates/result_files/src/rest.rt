@@ -1,5 +1,6 @@
 //! The words of a text that are still to be read.
 ghost use Rattle.std.specs.Prelude.{◌≡◌, ◌↔◌, ◌<◌, ◌^◌, ◌∷◌, [], IsTrue, drop, codes, length};
+ghost use Rattle.std.specs.Bool.{OnFalse};
 ghost use Rattle.token_words.specs.Word.{key, name};
 ghost use Rattle.token_words.specs.Words.{words_of};
 ghost use Rattle.token_words.specs.declared.keyword.TheConstants.{BUF, NOT, WIRE};
@@ -64,7 +65,8 @@ impl<'a> Rest<'a> {
 
     /// Passes over the next word, if it is this one.
     pub(crate) fn take(&mut self, word: &Word) -> bool
-        ensures { Takes (word.now ∷ []) self.old self.new result }
+        ensures takes { Takes (word.now ∷ []) self.old self.new result }
+        ensures kept { OnFalse result (self.new ≡ self.old) }
     {
         if !self.begins(word) {
             return false;
