@@ -7,7 +7,7 @@ use crate::{
     plain_schedules_are_told_apart, read_plain_map, read_plain_netlist, read_plain_schedule,
 };
 use design_core::Op;
-use emu_machine::{Action, Chip, Spot, Subject};
+use emu_machine::{Action, Chip, Frame, StateMap, Subject};
 use id_arena::{ChipId, ChipNetId, NetId, RegId};
 use std::alloc::Global;
 use std::test::Fail;
@@ -26,17 +26,26 @@ fn is_chip(chip: &Chip, nets: u32, gates: &[(Op, u32, u32)], registers: &[u32]) 
     if chip.nets != nets || chip.gates.len() != gates.len() as u64 {
         return false;
     }
-    for (gate, (op, output, input)) in chip.gates.as_slice().iter().zip(gates) {
-        let inputs = [ChipNetId { place: *input }];
-        if gate.op != *op || gate.output.place != *output || gate.inputs.as_slice() != inputs.as_slice() {
+    for place in 0..gates.len() {
+        let gate = chip.gates.get(place as u64);
+        let (op, output, input) = gates[place];
+        let inputs = [ChipNetId { place: input }];
+        if gate.op != op
+            || gate.output.place != output
+            || gate.inputs.as_slice() != inputs.as_slice()
+        {
             return false;
         }
     }
     if chip.registers.len() != registers.len() as u64 || !chip.memories.is_empty() {
         return false;
     }
-    for (register, q) in chip.registers.as_slice().iter().zip(registers) {
-        if register.q.place != *q || register.d.is_some() || register.enable.is_some() {
+    for place in 0..registers.len() {
+        let register = chip.registers.get(place as u64);
+        if register.q.place != registers[place]
+            || register.d.is_some()
+            || register.enable.is_some()
+        {
             return false;
         }
     }
@@ -59,7 +68,12 @@ fn reads_plain_netlists(rt: HostRuntime) -> Result<(), Fail> {
             [(Op::Not, 0, 1), (Op::Buf, 2, 1)].as_slice(),
             [1, 3].as_slice(),
         ),
-        ("module chip0;\nendmodule\n", 0, [].as_slice(), [].as_slice()),
+        (
+            "module chip0;\nendmodule\n",
+            0,
+            [].as_slice(),
+            [].as_slice(),
+        ),
         (
             "// one\n(* top *) module \\chip0 ; wire n0;wire n1;wire n2;wire n3;wire n4;wire n5;wire n6;wire n7;wire n8;wire n9;wire \\n10 ;buf g0(n10,n10);buf g1(n0,n1);buf g2(n1,n9);not g3(n2,n3);not g4(n3,n4);not g5(n4,n5);not g6(n5,n6);not g7(n6,n7);not g8(n7,n8);not g9(n8,n9);\\EHOLD r0(n9); endmodule /* end */",
             11,
@@ -113,7 +127,10 @@ fn refuses_other_netlists(rt: HostRuntime) -> Result<(), Fail> {
         "module chip0; wire n0; wire n1; \\buf g0 (n1, n0); EHOLD r0 (n0); endmodule",
     ] {
         let read = netlist(rt.alloc(), text.as_bytes())?;
-        assert!(rt; read.is_err_and(|fault| fault == FormFault::NotYet), "at {text}");
+        assert!(rt;
+            read.is_err_and(|fault| fault == FormFault::NotYet),
+            "at {text}"
+        );
     }
     Ok(())
 }
@@ -127,39 +144,48 @@ fn input(chip: u32, register: u32, net: u32) -> Action {
     }
 }
 
+/// Whether a frame has this group and these actions, slot by slot.
+fn is_frame(frame: &Frame, group: &str, slots: &[&[Action]]) -> bool {
+    if frame.group.bytes() != group.as_bytes() || frame.slots.len() != slots.len() as u64 {
+        return false;
+    }
+    for place in 0..slots.len() {
+        if frame.slots.get(place as u64).actions.as_slice() != slots[place] {
+            return false;
+        }
+    }
+    true
+}
+
 #[test]
 fn reads_plain_schedules(rt: HostRuntime) -> Result<(), Fail> {
     plain_schedules_are_told_apart();
-    let first = [input(0, 0, 2), input(0, 1, 4_294_967_295)];
-    let last = [input(1, 2, 3)];
-    for (text, frames) in [
-        ("{\"frames\":[],\"version\":1}\n", [].as_slice()),
-        (
-            "{\"frames\":[{\"group\":\"*\",\"slots\":[]}],\"version\":1}",
-            [("*", [].as_slice())].as_slice(),
-        ),
-        (
-            " {\"version\":2,\"version\":1,\"note\":[],\"frames\":[{\"slots\":[[[\"\\u0069nput\",0,0,2],[\"input\",0,1,4294967295]],[]],\"group\":\"\\u00e9\",\"more\":3},{\"group\":\"*\",\"slots\":[[[\"input\",1,2,3]]]}]}",
-            [
-                ("é", [first.as_slice(), [].as_slice()].as_slice()),
-                ("*", [last.as_slice()].as_slice()),
-            ]
-            .as_slice(),
-        ),
-    ] {
-        let Ok(schedule) = read_plain_schedule(rt.alloc(), text.as_bytes()) else {
-            assert!(rt; false, "refused {text}");
-            return Ok(());
-        };
-        assert_eq!(rt; schedule.frames.len(), frames.len() as u64, "at {text}");
-        for (frame, (group, slots)) in schedule.frames.as_slice().iter().zip(frames) {
-            assert!(rt; frame.group.bytes() == group.as_bytes(), "at {text}");
-            assert_eq!(rt; frame.slots.len(), slots.len() as u64, "at {text}");
-            for (slot, actions) in frame.slots.as_slice().iter().zip(*slots) {
-                assert!(rt; slot.actions.as_slice() == *actions, "at {text}");
-            }
-        }
-    }
+    let none = read_plain_schedule(rt.alloc(), b"{\"frames\":[],\"version\":1}\n");
+    assert!(rt; none.is_ok_and(|schedule| schedule.frames.is_empty()));
+    let inverter =
+        b"{\"frames\":[{\"group\":\"*\",\"slots\":[[[\"input\",0,0,2]]]}],\"version\":1}\n";
+    let Ok(schedule) = read_plain_schedule(rt.alloc(), inverter) else {
+        assert!(rt; false, "the inverter's schedule is refused");
+        return Ok(());
+    };
+    let [frame] = schedule.frames.as_slice() else {
+        assert!(rt; false, "the inverter has another number of frames");
+        return Ok(());
+    };
+    assert!(rt; is_frame(frame, "*", &[&[input(0, 0, 2)]]));
+    let two =
+        " {\"version\":2,\"version\":1,\"note\":[],\"frames\":[{\"slots\":[[[\"\\u0069nput\",0,0,2],[\"input\",0,1,4294967295]],[]],\"group\":\"\\u00e9\",\"more\":3},{\"group\":\"*\",\"slots\":[[[\"input\",1,2,3]]]}]}";
+    let Ok(schedule) = read_plain_schedule(rt.alloc(), two.as_bytes()) else {
+        assert!(rt; false, "two frames are refused");
+        return Ok(());
+    };
+    let [first, last] = schedule.frames.as_slice() else {
+        assert!(rt; false, "another number of frames");
+        return Ok(());
+    };
+    let actions = [input(0, 0, 2), input(0, 1, 4_294_967_295)];
+    assert!(rt; is_frame(first, "é", &[&actions, &[]]));
+    assert!(rt; is_frame(last, "*", &[&[input(1, 2, 3)]]));
     Ok(())
 }
 
@@ -190,6 +216,30 @@ fn refuses_other_plain_schedules(rt: HostRuntime) -> Result<(), Fail> {
         );
     }
     Ok(())
+}
+
+/// Whether a map has one chip with these nets of the design and these registers, and shows these nets
+/// of the chip.
+fn is_map(map: &StateMap, nets: &[u32], kept: &[bool], outputs: &[u32]) -> bool {
+    let [entry] = map.chips.as_slice() else {
+        return false;
+    };
+    if entry.nets.len() != nets.len() as u64 || map.outputs.len() != outputs.len() as u64 {
+        return false;
+    }
+    for place in 0..nets.len() {
+        let subject = Subject::Net(NetId { place: nets[place] });
+        if *entry.nets.get(place as u64) != subject {
+            return false;
+        }
+    }
+    for place in 0..outputs.len() {
+        let spot = map.outputs.get(place as u64);
+        if spot.chip.place != 0 || spot.net.place != outputs[place] {
+            return false;
+        }
+    }
+    entry.kept.as_slice() == kept && entry.memories.is_empty()
 }
 
 #[test]
@@ -223,28 +273,11 @@ fn reads_plain_maps(rt: HostRuntime) -> Result<(), Fail> {
             assert!(rt; false, "refused {chip}");
             return Ok(());
         };
-        let Ok(map) = read_plain_map(rt.alloc(), text.as_bytes(), &chip) else {
-            assert!(rt; false, "refused {text}");
-            return Ok(());
-        };
-        let [entry] = map.chips.as_slice() else {
-            assert!(rt; false, "another number of chips at {text}");
-            return Ok(());
-        };
-        assert_eq!(rt; entry.nets.len(), nets.len() as u64, "at {text}");
-        for (subject, net) in entry.nets.as_slice().iter().zip(nets) {
-            assert!(rt; *subject == Subject::Net(NetId { place: *net }), "at {text}");
-        }
-        assert!(rt; entry.kept.as_slice() == kept, "at {text}");
-        assert!(rt; entry.memories.is_empty(), "at {text}");
-        assert_eq!(rt; map.outputs.len(), outputs.len() as u64, "at {text}");
-        for (spot, net) in map.outputs.as_slice().iter().zip(outputs) {
-            let shown = Spot {
-                chip: ChipId { place: 0 },
-                net: ChipNetId { place: *net },
-            };
-            assert!(rt; *spot == shown, "at {text}");
-        }
+        let map = read_plain_map(rt.alloc(), text.as_bytes(), &chip);
+        assert!(rt;
+            map.is_ok_and(|map| is_map(&map, nets, kept, outputs)),
+            "at {text}"
+        );
     }
     Ok(())
 }
