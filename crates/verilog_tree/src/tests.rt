@@ -1,8 +1,8 @@
 //! Texts with their faults.
 
 use crate::{
-    Dir, Expr, IndexRange, Item, Links, Module, ParseFault, has_one_tree, parse, texts_are_read,
-    words_stand,
+    Dir, Expr, IndexRange, Item, Links, Module, ParseFault, Source, has_one_tree, parse,
+    texts_are_read, words_stand,
 };
 use emu_io::NoMemory;
 use std::alloc::Global;
@@ -270,10 +270,18 @@ fn letter_of(item: &Item) -> u8 {
     }
 }
 
+/// The only module of a text.
+fn only_module(tree: &Source) -> Option<&Module> {
+    match tree.modules.as_slice() {
+        [module] => Some(module),
+        _ => None,
+    }
+}
+
 /// The letters of a module's items.
-fn letters_of(alloc: Global, module: &Module) -> Result<Vec<u8>, NoMemory> {
+fn letters_of(alloc: Global, items: &[Item]) -> Result<Vec<u8>, NoMemory> {
     let mut letters = Vec::new(alloc);
-    for item in module.items.as_slice() {
+    for item in items {
         letters.push(letter_of(item))?;
     }
     Ok(letters)
@@ -340,26 +348,29 @@ fn a_text_has_its_tree(rt: HostRuntime) -> Result<(), Fail> {
     let source =
         b"module t(a,y);input [3:0] a;output y;wire w;supply1 s;assign y=w;not g(y,a);h u(a,);endmodule";
     let tokens = tokens(rt.alloc(), source)?;
-    let mut modules = 0;
-    if let Ok(tree) = parse(rt.alloc(), &tokens) {
-        for module in tree.modules.as_slice() {
-            modules += 1;
-            assert_eq!(rt; (module.name, module.ports.len()), (1, 2));
-            let letters = letters_of(rt.alloc(), module)?;
-            assert_eq!(rt; letters.as_slice(), b"PPNSAGI".as_slice());
-            let items = module.items.as_slice();
-            let range = Some(IndexRange { left: 3, right: 0 });
-            assert_eq!(rt;
-                items.first().and_then(first_port),
-                Some((14, Dir::Input, range))
-            );
-            assert_eq!(rt;
-                items.get(5).and_then(first_gate),
-                Some((Some(31), Some(33), Some(35)))
-            );
-            assert_eq!(rt; items.last().and_then(only_link), Some(Some(41)));
-        }
-    }
-    assert_eq!(rt; modules, 1);
+    let tree = parse(rt.alloc(), &tokens).ok();
+    let module = tree.as_ref().and_then(only_module);
+    assert_eq!(rt;
+        module.map(|m| (m.name, m.ports.len(), m.items.len())),
+        Some((1, 2, 7))
+    );
+    let items = match module {
+        Some(module) => module.items.as_slice(),
+        None => &[],
+    };
+    assert_eq!(rt;
+        letters_of(rt.alloc(), items)?.as_slice(),
+        b"PPNSAGI".as_slice()
+    );
+    let range = Some(IndexRange { left: 3, right: 0 });
+    assert_eq!(rt;
+        items.first().and_then(first_port),
+        Some((14, Dir::Input, range))
+    );
+    assert_eq!(rt;
+        items.get(5).and_then(first_gate),
+        Some((Some(31), Some(33), Some(35)))
+    );
+    assert_eq!(rt; items.last().and_then(only_link), Some(Some(41)));
     Ok(())
 }
