@@ -3,3 +3,4 @@ pub mod Readings
 pub mod OneCases
 pub mod FirstUnread
 pub mod Endings
+mod Refusals

@@ -31,7 +31,7 @@ use Rattle.emu_app.specs.Forms.{AreTokens, IsTreeOf, HasTree, SaysDesign, SaysBo
 use Rattle.emu_app.specs.Reading.{DesignMeans, NoneSaid, TreeMeans}
 
 -- two answers of one text are the same
-one_answer : reading.EachTextHasOneAnswer → (text : List ℕ) (a b : Result (List Token) LexFault) → reading.Reads text true 0 a → reading.Reads text true 0 b → a ≡ b
+pub one_answer : reading.EachTextHasOneAnswer → (text : List ℕ) (a b : Result (List Token) LexFault) → reading.Reads text true 0 a → reading.Reads text true 0 b → a ≡ b
 one_answer law text a b reads-a reads-b = (law text).2 a reads-a ∙ sym ((law text).2 b reads-b)
 
 -- no other tokens are those of the text
