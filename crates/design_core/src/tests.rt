@@ -1,5 +1,8 @@
 //! A small design by hand, its readers' answers, and each refusal once.
 
+ghost use Rattle.std.specs.Prelude.{IsTrue};
+ghost use Rattle.design_core.specs.Limits.{IsCountable};
+
 use crate::{
     Design, DesignFault, Driver, Element, Flop, Level, LimitKind, Memory, NetName, Op, Parts, Port,
     ReadPort, Scope, WritePort,
@@ -139,7 +142,9 @@ fn with_gate(alloc: Global, op: Op, inputs: &[u32], output: u32) -> Result<Parts
 #[test]
 fn readers_give_the_parts(rt: HostRuntime) -> Result<(), Fail> {
     let alloc = rt.alloc();
-    let Ok(design) = Design::build(alloc, parts(alloc)?) else {
+    let sound = parts(alloc)?;
+    assert!(rt; is_countable(&sound));
+    let Ok(design) = Design::build(alloc, sound) else {
         panic!(rt; "the parts are sound");
     };
     assert_eq!(rt; (design.nets(), design.elems(), design.mems()), (9, 3, 1));
@@ -197,8 +202,27 @@ fn readers_give_the_parts(rt: HostRuntime) -> Result<(), Fail> {
     Ok(())
 }
 
+/// Whether there is one output port, and places are numbers of 32 bits.
+fn is_countable(parts: &Parts) -> bool
+    ensures { IsTrue result → IsCountable parts.now }
+{
+    let most = 4_294_967_294u64;
+    let [port] = parts.outputs.as_slice() else {
+        return false;
+    };
+    parts.net_names.len() <= most
+        && parts.scopes.len() <= most
+        && parts.elements.len() <= most
+        && parts.memories.len() <= most
+        && parts.inputs.len() <= most
+        && port.nets.len() <= most
+}
+
 /// A fault in few words, or `none` for a design.
 fn told(alloc: Global, parts: Parts) -> Result<String, AllocError> {
+    if !is_countable(&parts) {
+        return String::from_str(alloc, "uncountable");
+    }
     let (word, place, name) = match Design::build(alloc, parts) {
         Ok(_) => ("none", 0, None),
         Err(DesignFault::BadNet { elem }) => ("bad", elem.place(), None),
