@@ -20,6 +20,8 @@ mod operation;
 mod owners;
 mod parts;
 mod reads;
+#[cfg(test)]
+mod tests;
 mod values;
 
 pub use design::Design;
