@@ -5,3 +5,4 @@ pub mod Finished
 pub mod Walks
 pub mod Sorting
 pub mod Rankings
+pub mod Deciding

@@ -3,9 +3,9 @@
 use Rattle.std.specs.Prelude.{◌≡◌, ◌<◌, ℕ, List, length, Result, Ok, Err, slice_index}
 use Rattle.graph_rank.specs.declared.fault.GraphFault.{GraphFault}
 use Rattle.graph_rank.specs.declared.fault.GraphFault.TheVariants as fault
-use Rattle.graph_rank.specs.Rows.{Leads}
+use Rattle.graph_rank.specs.Rows.{InRange, Leads}
 use Rattle.graph_rank.specs.Ranks.{HasRank, AllRanked, Ranking, IsRanking, IsOrder}
-use Rattle.graph_rank.specs.Cycles.{IsCycle}
+use Rattle.graph_rank.specs.Cycles.{Unranked, IsCycle}
 
 -- the ranks and the order of a graph in which each node has a rank, else its one cycle
 abbrev pub Answers : List (List ℕ) → Result Ranking GraphFault → Type 0
@@ -29,3 +29,7 @@ RankedHasNoCycle = (rows : List (List ℕ)) → AllRanked rows → (n : ℕ) →
 abbrev pub CyclesComeRound : Type 0
 CyclesComeRound = (rows : List (List ℕ)) (cycle : List ℕ) → IsCycle rows cycle
     → Leads rows (slice_index cycle 0) (slice_index cycle 0)
+
+-- where all named nodes are there and some node has no rank, some node depends on itself
+abbrev pub UnrankedHasCycle : Type 0
+UnrankedHasCycle = (rows : List (List ℕ)) (n : ℕ) → InRange rows → Unranked rows n → (m : ℕ) × Leads rows m m

@@ -1,5 +1,5 @@
 //! The laws of ranks and cycles.
-ghost use Rattle.graph_rank.specs.Answers.{RanksAreUnique, RankingsAreSorted, RankedHasNoCycle, CyclesComeRound};
+ghost use Rattle.graph_rank.specs.Answers.{RanksAreUnique, RankingsAreSorted, RankedHasNoCycle, UnrankedHasCycle, CyclesComeRound};
 
 /// A node has at most one rank.
 pub fn ranks_are_unique()
@@ -14,6 +14,11 @@ pub fn rankings_are_sorted()
 /// Where each node has a rank, no node depends on itself, in one step or in more.
 pub fn ranked_has_no_cycle()
     ensures { RankedHasNoCycle }
+{}
+
+/// Where some node has no rank, some node depends on itself.
+pub fn unranked_has_cycle()
+    ensures { UnrankedHasCycle }
 {}
 
 /// The nodes of a cycle depend on themselves.

@@ -17,7 +17,10 @@ mod search;
 
 pub use fault::GraphFault;
 pub use graph::Graph;
-pub use laws::{cycles_come_round, ranked_has_no_cycle, rankings_are_sorted, ranks_are_unique};
+pub use laws::{
+    cycles_come_round, ranked_has_no_cycle, rankings_are_sorted, ranks_are_unique,
+    unranked_has_cycle,
+};
 pub use order::Order;
 pub use rank::rank_graph;
 
