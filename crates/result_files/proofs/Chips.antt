@@ -1,5 +1,5 @@
 -- The chip that the words of a netlist say.
-use Rattle.std.proofs.Common.{◌≡◌, ◌≢◌, ◌↔◌, ◌+◌, ◌-◌, ◌<◌, ◌≤◌, ◌^◌, ℕ, zero, suc, Bool, true, false, IsTrue, List, [], ◌∷◌, ◌++◌, Some, None, Result, Ok, Err, length, map, slice_get, drop, refl, sym, ap, ◌∙◌, subst, arith, inl, inr}
+use Rattle.std.proofs.Common.{◌≡◌, ◌≢◌, ◌↔◌, ◌-◌, ◌<◌, ◌^◌, ℕ, Bool, true, false, IsTrue, List, [], ◌∷◌, ◌++◌, Err, length, drop, refl, sym, ap, ◌∙◌, subst, arith, inl, inr}
 use Rattle.std.specs.Prelude.{codes}
 use Rattle.std.proofs.lemmas.List.{length-drop, length-map}
 use Rattle.verilog_lex.specs.declared.token.Token.{Token}
@@ -16,8 +16,8 @@ use Rattle.emu_machine.specs.Plain.{IsPlainChip, IsPlainGate, IsPlainRegister}
 use Rattle.result_files.specs.Faults.{Answers}
 use Rattle.result_files.specs.declared.fault.FormFault.{FormFault}
 use Rattle.result_files.specs.declared.fault.FormFault.TheVariants.{NotYet, NoMemory}
-use Rattle.result_files.specs.PlainNetlist.{gate_word, head_words, gate_words, register_words, netlist_words, IsChipOf, SaysChip, TextsTellChipsApart}
-use Rattle.result_files.specs.Taken.{Begins, Each, IsWireWord, IsGateWord, IsRegisterWord, IsGateBelow, IsRegisterBelow, blank, TakesLines, TakesWires, lines, wires}
+use Rattle.result_files.specs.PlainNetlist.{gate_word, head_words, gate_words, register_words, IsChipOf, SaysChip, TextsTellChipsApart}
+use Rattle.result_files.specs.Taken.{Begins, Each, IsWireWord, IsGateWord, IsRegisterWord, IsGateBelow, IsRegisterBelow, blank, TakesLines, lines, wires}
 use Rattle.result_files.proofs.Lines.{same_lines_from, each_head}
 use Rattle.result_files.proofs.Netlists.{kind_place, same_wires, wires_fit, gate_first, gate_one, register_first, register_one}
 

@@ -1,13 +1,13 @@
 -- Counts of drivers.
-use Rattle.std.proofs.Common.{◌≡◌, ◌↔◌, ◌+◌, ◌<◌, ◌≤◌, ℕ, zero, suc, Bool, IsTrue, List, [], ◌∷◌, Some, length, slice_get, get_or, refl, sym, ap, ◌∙◌, subst, arith}
-use Rattle.std.specs.Prelude.{min, count_by, replicate}
+use Rattle.std.proofs.Common.{◌≡◌, ◌↔◌, ◌<◌, ℕ, zero, suc, Bool, IsTrue, List, [], ◌∷◌, Some, length, slice_get, get_or, refl, ap, ◌∙◌, subst, arith}
+use Rattle.std.specs.Prelude.{count_by, replicate}
 use Rattle.std.proofs.lemmas.List.{length-replicate}
 use Rattle.emu_machine.specs.declared.netlist.Chip.{Chip}
 use Rattle.emu_machine.specs.declared.netlist.EmuGate.{EmuGate}
 use Rattle.emu_machine.specs.declared.netlist.EmuRegister.{EmuRegister}
-use Rattle.emu_machine.specs.Netlist.{chip_at, net_drivers, IsNetlist, is_chip_net, read_nets}
+use Rattle.emu_machine.specs.Netlist.{net_drivers, IsNetlist, is_chip_net, read_nets}
 use Rattle.emu_machine.specs.Plain.{IsPlainChip}
-use Rattle.result_files.specs.Drivers.{AddsDrivers, AreBelow, AreOnes, times_driven, gate_output, register_output}
+use Rattle.result_files.specs.Drivers.{AddsDrivers, AreBelow, AreOnes, gate_output, register_output}
 
 no_reads : (chip : Chip) (n : ℕ) → chip.memories ≡ [] → count_by (is_chip_net n) (read_nets chip) ≡ 0
 no_reads chip n e = rw e refl

@@ -1,12 +1,12 @@
 -- Lists whose entries say values, entry by entry.
-use Rattle.std.proofs.Common.{◌≡◌, ◌+◌, ◌<◌, ℕ, List, [], ◌∷◌, ◌++◌, Some, None, length, map, take, drop, get_or, Err, slice_get, zero, suc, refl, sym, ap, ◌∙◌, subst, arith}
+use Rattle.std.proofs.Common.{◌≡◌, ◌+◌, ◌<◌, ℕ, List, [], ◌∷◌, ◌++◌, Some, length, map, take, get_or, Err, slice_get, zero, suc, refl, sym, subst}
 use Rattle.serde_json.specs.View.{view}
 use Rattle.serde_json.specs.declared.value.Value.{Value}
 use Rattle.result_files.specs.Faults.{Answers}
 use Rattle.result_files.specs.declared.fault.FormFault.{FormFault}
 use Rattle.result_files.specs.declared.fault.FormFault.TheVariants.{NotYet, NoMemory}
 use Rattle.std.proofs.lemmas.List.{map-append, take_more}
-use Rattle.std.proofs.lemmas.Option.{get_or_from_slice_get, same_Some, slice_get-map, slice_get_read}
+use Rattle.std.proofs.lemmas.Option.{same_Some, slice_get-map, slice_get_read}
 use Rattle.serde_json.specs.Data.{Data}
 use Rattle.result_files.specs.Lists.{SayEach}
 

@@ -1,16 +1,16 @@
 -- What the steps into a JSON tree say of the tree.
-use Rattle.std.proofs.Common.{◌≡◌, ◌≢◌, ℕ, ◌≤◌, List, [], ◌∷◌, length, Bor, Option, Bool, IsTrue, ◌==◌, subst, Some, None, refl, sym, ap, ◌∙◌, arith}
+use Rattle.std.proofs.Common.{◌≡◌, ◌≢◌, ℕ, List, [], ◌∷◌, length, Bor, Option, IsTrue, ◌==◌, Some, None, refl, sym, ap, ◌∙◌, arith}
 use Rattle.std.specs.Prelude.{map, MatchOption}
 use Rattle.std.proofs.lemmas.List.{length-map}
 use Rattle.std.proofs.lemmas.Bool.Decides.{nat_tests}
 use Rattle.std.proofs.lemmas.Option.{same_Some}
-use Rattle.serde_json.specs.Data.{Data, null, boolean, number, string, array, object, unsigned, negative, float, Items, no_items, item}
-use Rattle.serde_json.specs.Find.{as_array, as_str, as_bool}
+use Rattle.serde_json.specs.Data.{Data, null, boolean, number, string, array, object, unsigned, negative, float, Items}
+use Rattle.serde_json.specs.Find.{as_array, as_str}
 use Rattle.serde_json.specs.View.{items_of, view}
 use Rattle.serde_json.specs.declared.value.Value.{Value}
 use Rattle.json_members.specs.JsonText.{IsTextOf}
 use Rattle.json_members.specs.Members.{number_of}
-use Rattle.result_files.specs.Trees.{list, whole, IsWord, IsWordTree}
+use Rattle.result_files.specs.Trees.{list, IsWordTree}
 
 pub array_is : (d : Data) (ds : Items) → as_array d ≡ Some ds → d ≡ array ds
 array_is null ds e = cc

@@ -1,6 +1,6 @@
 -- What texts of maps say.
-use Rattle.std.proofs.Common.{◌≡◌, ◌↔◌, ℕ, zero, suc, Bool, true, false, List, [], ◌∷◌, Some, None, IsTrue, length, slice_get, Result, Ok, Err, refl, sym, ap, ◌∙◌, subst}
-use Rattle.std.specs.Prelude.{IfOk, codes}
+use Rattle.std.proofs.Common.{◌≡◌, ◌↔◌, ℕ, zero, suc, Bool, true, false, List, [], ◌∷◌, Some, IsTrue, slice_get, refl, sym, ap, ◌∙◌, subst}
+use Rattle.std.specs.Prelude.{codes}
 use Rattle.std.proofs.lemmas.Option.{same_Some}
 use Rattle.serde_json.specs.Data.{Data, boolean, string}
 use Rattle.json_members.specs.JsonText.{IsTextOf}
@@ -11,12 +11,10 @@ use Rattle.emu_machine.specs.declared.map.Subject.{Subject}
 use Rattle.emu_machine.specs.declared.map.Subject.TheVariants.{Net, Up, Down, Take, Next, TakeWrite}
 use Rattle.emu_machine.specs.declared.netlist.Chip.{Chip}
 use Rattle.emu_machine.specs.declared.schedule.Schedule.{Schedule}
-use Rattle.emu_machine.specs.Law.{ChipEntryFits, MapFits}
+use Rattle.emu_machine.specs.Law.{ChipEntryFits}
 use Rattle.emu_machine.specs.Plain.{IsNetSubject, IsPlainMap}
-use Rattle.result_files.specs.Faults.{Answers}
 use Rattle.result_files.specs.Trees.{list, whole}
 use Rattle.result_files.specs.PlainMap.{IsSubjectTree, IsKeptTree, IsSpotTree, IsEntryTree, IsOnlyChip, IsMapTree, AreThere, FitsChip, SaysMap, TextsTellMapsApart}
-use Rattle.result_files.specs.declared.fault.FormFault.{FormFault}
 use Rattle.result_files.proofs.Entries.{said}
 use Rattle.result_files.proofs.Inside.{same_list, same_tree}
 use Rattle.result_files.proofs.Schedules.{one_member, at_place}

@@ -1,22 +1,17 @@
 -- What the words of netlists say.
-use Rattle.std.proofs.Common.{◌≡◌, ◌≢◌, ◌↔◌, ◌+◌, ◌<◌, ◌≤◌, ◌^◌, ℕ, zero, suc, Bool, true, false, IsTrue, List, [], ◌∷◌, ◌++◌, Some, None, Option, Result, Ok, Err, length, slice_get, drop, refl, sym, ap, ◌∙◌, subst, arith, append_assoc, inl, inr}
-use Rattle.std.specs.Prelude.{flat_map, codes, decimal, ◌⊎◌}
-use Rattle.std.specs.List.{enumerate_from, range_with_len}
-use Rattle.std.proofs.lemmas.Option.{same_Some}
-use Rattle.token_words.specs.Word.{Word, key, name, open_parenthesis, close_parenthesis, comma, semicolon}
-use Rattle.token_words.specs.declared.keyword.TheConstants.{BUF, ENDMODULE, MODULE, NOT, WIRE}
+use Rattle.std.proofs.Common.{◌≡◌, ◌≢◌, ◌+◌, ◌<◌, ◌≤◌, ◌^◌, ℕ, zero, suc, List, [], ◌∷◌, ◌++◌, length, drop, refl, sym, ap, ◌∙◌, subst, arith, inl, inr}
+use Rattle.std.specs.Prelude.{flat_map, codes}
+use Rattle.std.specs.List.{range_with_len}
+use Rattle.token_words.specs.Word.{Word, key, open_parenthesis, close_parenthesis, comma, semicolon}
+use Rattle.token_words.specs.declared.keyword.TheConstants.{BUF, NOT}
 use Rattle.verilog_lex.specs.declared.token.TokenKind.TheVariants.{Name, Keyword, Number, Constant, Mark}
 use Rattle.id_arena.specs.declared.keys.ChipNetId.{ChipNetId}
 use Rattle.design_core.specs.declared.operation.Op.{Op}
-use Rattle.design_core.specs.declared.operation.Op.TheVariants.{Buf, Not}
 use Rattle.design_core.specs.Plain.{IsPlainOp}
-use Rattle.emu_machine.specs.declared.netlist.Chip.{Chip}
 use Rattle.emu_machine.specs.declared.netlist.EmuGate.{EmuGate}
 use Rattle.emu_machine.specs.declared.netlist.EmuRegister.{EmuRegister}
-use Rattle.emu_machine.specs.Plain.{IsPlainChip, IsPlainGate, IsPlainRegister}
-use Rattle.result_files.specs.PlainNetlist.{numbered, net_word, gate_word, input_words, head_words, wire_words, gate_words, register_words, netlist_words, IsChipOf}
-use Rattle.result_files.specs.Taken.{Begins, Each, IsWireWord, IsGateWord, IsRegisterWord, IsGateBelow, IsRegisterBelow, lines, wires}
-use Rattle.result_files.proofs.Lines.{lines_from, each_head, same_lines_from, next_stands}
+use Rattle.result_files.specs.PlainNetlist.{numbered, net_word, gate_word, input_words, wire_words, gate_words, register_words}
+use Rattle.result_files.specs.Taken.{Begins, IsWireWord, IsGateWord, IsRegisterWord, IsGateBelow, IsRegisterBelow, wires}
 use Rattle.result_files.proofs.Numbers.{same_number}
 
 -- Declarations of nets.

@@ -1,9 +1,9 @@
 -- Names with equal words have equal numbers.
-use Rattle.std.proofs.Common.{◌≡◌, ◌≢◌, ◌<◌, ◌≤◌, ◌^◌, ℕ, Bool, true, false, List, [], ◌∷◌, ◌++◌, drop, refl, sym, ap, ◌∙◌, subst, arith, nat_eq}
+use Rattle.std.proofs.Common.{◌≡◌, ◌≢◌, ◌<◌, ◌≤◌, ◌^◌, ℕ, Bool, true, false, List, [], ◌∷◌, drop, refl, sym, ap, ◌∙◌, arith, nat_eq}
 use Rattle.std.specs.Prelude.{decimal, codes}
 use Rattle.std.proofs.lemmas.Bool.Decides.{nat_tests}
 use Rattle.std.proofs.lemmas.Fmt.{decimal_injective}
-use Rattle.token_words.specs.Word.{Word, name}
+use Rattle.token_words.specs.Word.{Word}
 use Rattle.id_arena.specs.declared.keys.ChipNetId.{ChipNetId}
 use Rattle.result_files.specs.PlainNetlist.{numbered, net_word}
 use Rattle.result_files.specs.Taken.{Takes, IsNetBelow}

@@ -1,12 +1,12 @@
 -- The parts of a netlist, as they are taken.
-use Rattle.std.proofs.Common.{◌≡◌, ◌≢◌, ◌+◌, ◌<◌, ◌^◌, ℕ, zero, suc, List, [], ◌∷◌, ◌++◌, Some, None, length, slice_get, refl, sym, ap, ◌∙◌, subst, arith}
+use Rattle.std.proofs.Common.{◌≡◌, ◌≢◌, ◌+◌, ◌<◌, ◌^◌, ℕ, List, [], ◌∷◌, ◌++◌, length, sym, ap, ◌∙◌, subst, arith}
 use Rattle.std.proofs.lemmas.List.{length-append}
 use Rattle.token_words.specs.Word.{Word}
 use Rattle.emu_machine.specs.declared.netlist.EmuGate.{EmuGate}
 use Rattle.emu_machine.specs.declared.netlist.EmuRegister.{EmuRegister}
 use Rattle.result_files.specs.declared.netlist_line.GateLine.{GateLine}
 use Rattle.result_files.specs.PlainNetlist.{wire_words, gate_words, register_words}
-use Rattle.result_files.specs.Taken.{Begins, Each, IsWireWord, IsGateWord, IsRegisterWord, IsGateBelow, IsRegisterBelow, IsLineBelow, gate_of, line_words, lines, wires}
+use Rattle.result_files.specs.Taken.{Begins, Each, IsGateWord, IsRegisterWord, IsGateBelow, IsRegisterBelow, IsLineBelow, gate_of, line_words, lines, wires}
 use Rattle.result_files.proofs.Lines.{each_more, one_more, no_lines}
 use Rattle.result_files.proofs.Netlists.{wires_more, gate_first, gate_one, register_first, register_one}
 

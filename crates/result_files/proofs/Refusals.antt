@@ -1,16 +1,15 @@
 -- What a reader answers where a part of what it reads was answered.
-use Rattle.std.proofs.Common.{◌≡◌, ℕ, List, Some, map, Result, Ok, Err, refl, sym, ap, ◌∙◌, subst}
+use Rattle.std.proofs.Common.{◌≡◌, ℕ, List, Result, Ok, Err, sym, ◌∙◌, subst}
 use Rattle.std.specs.Prelude.{IsErr}
 use Rattle.std.specs.Result.{IsErrAnd}
 use Rattle.std.proofs.lemmas.Option.{same_Some}
 use Rattle.serde_json.specs.Data.{Data}
-use Rattle.json_members.specs.JsonText.{IsTextOf}
 use Rattle.result_files.specs.Faults.{Answers}
 use Rattle.result_files.specs.Lists.{SayEach, IsListOf, HasList}
 use Rattle.result_files.specs.Trees.{list, HasMember}
 use Rattle.result_files.specs.declared.fault.FormFault.{FormFault}
 use Rattle.result_files.specs.declared.fault.FormFault.TheVariants.{NotYet, NoMemory}
-use Rattle.result_files.proofs.Inside.{same_list, same_tree}
+use Rattle.result_files.proofs.Inside.{same_list}
 
 -- the answer of a part is handed on
 pub handed_on : {A : Type 0} (P : A → Type 0) (r : Result A FormFault) (fault : FormFault) → IsErr r × IsErrAnd r (λ e. e ≡ fault) → Answers P (Err fault) → Answers P r

@@ -1,8 +1,8 @@
 -- What texts of schedules say.
-use Rattle.std.proofs.Common.{◌≡◌, ◌<◌, ℕ, List, [], ◌∷◌, Some, length, slice_get, get_or, Result, Ok, Err, refl, sym, ap, ◌∙◌, subst}
+use Rattle.std.proofs.Common.{◌≡◌, ℕ, List, [], ◌∷◌, Some, slice_get, Result, Ok, Err, sym, ap, ◌∙◌, subst}
 use Rattle.std.specs.Prelude.{Contains, IfOk, codes}
 use Rattle.std.proofs.lemmas.Option.{same_Some, slice_get-get_or}
-use Rattle.serde_json.specs.Data.{Data, string, number, unsigned}
+use Rattle.serde_json.specs.Data.{Data, string}
 use Rattle.json_members.specs.JsonText.{IsTextOf}
 use Rattle.emu_machine.specs.declared.schedule.Action.{Action}
 use Rattle.emu_machine.specs.declared.schedule.Action.TheVariants.{Input, Load, Send, Write, Read}
@@ -12,10 +12,9 @@ use Rattle.emu_machine.specs.declared.schedule.Slot.{Slot}
 use Rattle.emu_machine.specs.Plain.{IsInput, IsPlainSchedule}
 use Rattle.result_files.specs.Faults.{Answers}
 use Rattle.result_files.specs.Lists.{SayEach, IsListOf, HasList}
-use Rattle.result_files.specs.Trees.{list, whole}
+use Rattle.result_files.specs.Trees.{whole}
 use Rattle.result_files.specs.PlainSchedule.{IsActionTree, IsSlotTree, IsFrameTree, IsScheduleTree, SaysSchedule, TextsTellSchedulesApart}
 use Rattle.result_files.specs.declared.fault.FormFault.{FormFault}
-use Rattle.result_files.specs.declared.fault.FormFault.TheVariants.{NotYet, NoMemory}
 use Rattle.result_files.proofs.Entries.{said, says_same}
 use Rattle.result_files.proofs.Inside.{same_list, same_tree}
 use Rattle.result_files.proofs.Refusals.{same_answer}

@@ -1,18 +1,18 @@
 -- Words from a place on.
-use Rattle.std.proofs.Common.{◌≡◌, ◌≢◌, ◌↔◌, ◌+◌, ◌<◌, ◌≤◌, ◌^◌, ℕ, zero, suc, Bool, true, false, IsTrue, List, [], ◌∷◌, ◌++◌, Some, None, Option, length, slice_get, get_or, drop, refl, sym, ap, ◌∙◌, subst, arith}
-use Rattle.std.specs.Prelude.{MatchOption, option_map, unwrap_or, decimal}
+use Rattle.std.proofs.Common.{◌≡◌, ◌≢◌, ◌↔◌, ◌+◌, ◌<◌, ◌≤◌, ◌^◌, ℕ, zero, suc, Bool, IsTrue, List, [], ◌∷◌, Some, length, slice_get, get_or, drop, refl, sym, ap, ◌∙◌, subst, arith}
+use Rattle.std.specs.Prelude.{decimal}
 use Rattle.std.specs.List.{slice_range}
 use lib.Dec.{leb}
 use Rattle.std.proofs.lemmas.Bool.Decides.{nat_tests}
-use Rattle.std.proofs.lemmas.List.{drop_all, drop_more, length-drop, length-map}
+use Rattle.std.proofs.lemmas.List.{drop_all, drop_more, length-drop}
 use Rattle.std.proofs.lemmas.Option.{same_Some, get_or_from_slice_get, slice_get_within}
 use Rattle.verilog_lex.specs.declared.token.Token.{Token}
 use Rattle.verilog_lex.specs.declared.token.TokenKind.{TokenKind}
 use Rattle.verilog_lex.specs.declared.token.TokenKind.TheVariants.{Name, Keyword, Number, Constant, Mark}
 use Rattle.token_words.specs.Word.{Word, name}
-use Rattle.token_words.specs.Words.{bytes_of, word_of, words_of, name_at}
+use Rattle.token_words.specs.Words.{bytes_of, words_of, name_at}
 use Rattle.result_files.specs.PlainNetlist.{numbered}
-use Rattle.result_files.specs.Taken.{Begins, Takes, TakesNumber}
+use Rattle.result_files.specs.Taken.{Begins}
 
 -- the word at a place begins the words from there on
 begins_get : (F : Word → Type 0) (ws : List Word) (k : ℕ) (w : Word) → slice_get ws k ≡ Some w → F w → Begins F (drop k ws)

@@ -1,5 +1,5 @@
 -- The fault of a text that a fault of JSON is, and what a reader of texts answers.
-use Rattle.std.specs.Prelude.{◌≡◌, ◌≢◌, Result, Ok, Err}
+use Rattle.std.specs.Prelude.{◌≡◌, Result, Ok, Err}
 use Rattle.json_members.specs.declared.text.JsonFault.{JsonFault}
 use Rattle.json_members.specs.declared.text.JsonFault.TheVariants as json
 use Rattle.result_files.specs.declared.fault.FormFault.{FormFault}

@@ -10,7 +10,6 @@ use Rattle.emu_machine.specs.declared.map.StateMap.{StateMap}
 use Rattle.emu_machine.specs.declared.map.Subject.{Subject}
 use Rattle.emu_machine.specs.declared.map.Subject.TheVariants.{Net}
 use Rattle.emu_machine.specs.declared.netlist.Chip.{Chip}
-use Rattle.emu_machine.specs.declared.results.Results.{Results}
 use Rattle.emu_machine.specs.declared.schedule.Schedule.{Schedule}
 use Rattle.emu_machine.specs.Law.{MapFits}
 use Rattle.emu_machine.specs.Netlist.{chip_at}

@@ -8,7 +8,7 @@ use Rattle.emu_machine.specs.declared.netlist.Chip.{Chip}
 use Rattle.emu_machine.specs.declared.netlist.EmuGate.{EmuGate}
 use Rattle.emu_machine.specs.declared.netlist.EmuRegister.{EmuRegister}
 use Rattle.emu_machine.specs.Plain.{IsPlainGate, IsPlainRegister}
-use Rattle.result_files.specs.PlainNetlist.{numbered, net_word, gate_word, wire_words, gate_words}
+use Rattle.result_files.specs.PlainNetlist.{numbered, gate_word, wire_words, gate_words}
 use Rattle.design_core.specs.declared.operation.Op.{Op}
 use Rattle.result_files.specs.declared.netlist_line.GateLine.{GateLine}
 use Rattle.result_files.specs.declared.fault.FormFault.{FormFault}

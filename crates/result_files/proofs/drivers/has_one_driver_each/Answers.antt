@@ -1,4 +1,4 @@
-use Rattle.std.proofs.Common.{ℕ, rules, refl, ◌∙◌}
+use Rattle.std.proofs.Common.{refl, ◌∙◌}
 use Rattle.result_files.proofs.drivers.has_one_driver_each.Goals as goal
 use Rattle.result_files.proofs.Driven.{counted_all, gates_below}
 

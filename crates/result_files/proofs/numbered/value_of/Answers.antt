@@ -1,4 +1,4 @@
-use Rattle.std.proofs.Common.{ℕ, rules, arith}
+use Rattle.std.proofs.Common.{rules}
 use Rattle.std.proofs.lemmas.Str.Parse.{digit_at}
 use Rattle.result_files.proofs.numbered.value_of.Goals as goal
 use Rattle.result_files.proofs.Digits.{more, too_large}

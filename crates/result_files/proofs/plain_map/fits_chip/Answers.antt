@@ -1,6 +1,5 @@
-use Rattle.std.proofs.Common.{ℕ, refl}
 use Rattle.result_files.proofs.plain_map.fits_chip.Goals as goal
-use Rattle.result_files.proofs.Maps.{first_plain, outputs_decide, entry_decides}
+use Rattle.result_files.proofs.Maps.{outputs_decide, entry_decides}
 
 pub returns-then-entry_fits : goal.returns-then-entry_fits
 returns-then-entry_fits c =

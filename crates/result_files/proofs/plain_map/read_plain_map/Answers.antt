@@ -1,4 +1,3 @@
-use Rattle.std.proofs.Common.{ℕ, refl}
 use Rattle.serde_json.specs.View.{view}
 use Rattle.result_files.specs.PlainMap.{SaysMap}
 use Rattle.result_files.proofs.plain_map.read_plain_map.Goals as goal

@@ -1,4 +1,4 @@
-use Rattle.std.proofs.Common.{ℕ, rules, sym, ◌∙◌}
+use Rattle.std.proofs.Common.{rules, sym, ◌∙◌}
 use Rattle.token_words.specs.Words.{words_of}
 use Rattle.result_files.specs.PlainNetlist.{IsChipOf}
 use Rattle.result_files.proofs.plain_netlist.read_chip.Goals as goal

@@ -1,7 +1,6 @@
-use Rattle.std.proofs.Common.{ℕ, rules, sym, ◌∙◌}
+use Rattle.std.proofs.Common.{rules}
 use Rattle.result_files.proofs.plain_netlist.read_plain_netlist.Goals as goal
-use Rattle.result_files.proofs.Chips.{none_driven, said_of}
-use Rattle.result_files.proofs.Refusals.{part_refused}
+use Rattle.result_files.proofs.Chips.{none_driven}
 
 pub returns-then-branch : goal.returns-then-branch
 returns-then-branch c = record {

@@ -1,4 +1,4 @@
-use Rattle.std.proofs.Common.{ℕ, rules}
+use Rattle.std.proofs.Common.{rules}
 use Rattle.result_files.proofs.plain_netlist.take_gates.Goals as goal
 use Rattle.result_files.proofs.Parts.{no_gates, gates_taken}
 

@@ -1,4 +1,4 @@
-use Rattle.std.proofs.Common.{ℕ, rules}
+use Rattle.std.proofs.Common.{rules}
 use Rattle.result_files.proofs.plain_netlist.take_wires.Goals as goal
 use Rattle.result_files.proofs.Netlists.{no_wires}
 use Rattle.result_files.proofs.Parts.{wires_taken}

@@ -1,4 +1,4 @@
-use Rattle.std.proofs.Common.{◌≡◌, ◌<◌, ◌+◌, ◌^◌, ℕ, length, ◌++◌}
+use Rattle.std.proofs.Common.{◌≡◌, ◌<◌, ◌+◌, ◌^◌, length, ◌++◌}
 use Rattle.result_files.specs.Taken.{wires}
 use Rattle.result_files.proofs.plain_netlist.take_wires.Given as goal
 

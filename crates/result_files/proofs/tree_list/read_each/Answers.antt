@@ -1,6 +1,5 @@
-use Rattle.std.proofs.Common.{sym, subst}
 use Rattle.serde_json.specs.View.{view}
-use Rattle.std.specs.Prelude.{map, take}
+use Rattle.std.specs.Prelude.{map}
 use Rattle.result_files.specs.Lists.{SayEach}
 use Rattle.result_files.proofs.tree_list.read_each.Goals as goal
 use Rattle.result_files.proofs.Entries.{say_next, not_each}

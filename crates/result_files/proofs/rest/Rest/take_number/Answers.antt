@@ -1,4 +1,3 @@
-use Rattle.std.proofs.Common.{ℕ, rules}
 use Rattle.token_words.specs.Words.{words_of}
 use Rattle.result_files.proofs.rest.Rest.take_number.Goals as goal
 use Rattle.result_files.proofs.Words.{number_passed, no_number}
