@@ -6,3 +6,5 @@ pub mod FromRules
 pub mod Histories
 pub mod Together
 pub mod Examples
+pub mod Tests
+pub mod Driven

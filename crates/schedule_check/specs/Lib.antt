@@ -1,2 +1,3 @@
 pub mod OneGateCase
 pub mod Facts
+pub mod Verdict

@@ -8,8 +8,11 @@
 
 pub mod facts;
 mod one_gate;
+mod plain_case;
+mod verdict;
 
 pub use one_gate::{accepted_agrees, is_accepted};
+pub use verdict::{Rule, Verdict};
 
 #[cfg(test)]
 mod tests;

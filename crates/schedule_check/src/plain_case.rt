@@ -1,0 +1,147 @@
+//! A plain case with its parts at hand.
+
+ghost use Rattle.std.specs.Prelude.{[], ◌<◌, ◌≡◌, ◌∷◌, length, option_map, Some};
+ghost use Rattle.design_core.specs.Design.{driver};
+ghost use Rattle.emu_machine.specs.declared.map.Subject.TheVariants.{Net};
+ghost use Rattle.emu_machine.specs.Netlist.{chip_at};
+ghost use Rattle.emu_machine.specs.Mapped.{chip_map, subject};
+ghost use Rattle.emu_machine.specs.Plain.{IsNetSubject};
+ghost use Rattle.emu_machine.specs.State.{frame_slots};
+ghost use Rattle.schedule_check.specs.Verdict.{IsPlainCase, Stem};
+
+use design_core::{Design, Driver, Element, Op};
+use emu_machine::{Chip, ChipMap, Results, Slot, Subject};
+use id_arena::{ChipNetId, NetId};
+use std::marker::Model;
+
+/// Plain results for a plain design, on a board of one chip.
+#[derive(Drop)]
+pub(crate) struct PlainCase<'a> {
+    design: &'a Design,
+    room: u64,
+    slots: u32,
+    results: &'a Results,
+}
+
+impl<'a> Model for PlainCase<'a> {
+    ghost use Rattle.emu_machine.specs.Acceptance.{Case};
+    ghost use Rattle.schedule_check.specs.Verdict.{plain_case, IsPlainCase};
+
+    ghost Value = { Case };
+
+    ghost view = { λ c. plain_case c.design.now c.room c.slots c.results.now };
+
+    ghost invariant = { λ c. IsPlainCase (plain_case c.design.now c.room c.slots c.results.now) };
+}
+
+impl<'a> PlainCase<'a> {
+    /// What holds of every plain case, for its callers.
+    pub(crate) fn stands(&self)
+        ensures { IsPlainCase self.now }
+    {
+        let _ = &self.results;
+    }
+
+    /// The design.
+    pub(crate) fn design(&self) -> &Design
+        ensures { result.now ≡ self.now.design }
+    {
+        self.design
+    }
+
+    /// The room of the one chip.
+    pub(crate) fn room(&self) -> u64
+        ensures { self.now.board.rooms ≡ result ∷ [] }
+    {
+        self.room
+    }
+
+    /// The most slots that a frame may have.
+    pub(crate) fn slots(&self) -> u32
+        ensures { result ≡ self.now.board.slots }
+    {
+        self.slots
+    }
+
+    /// The results.
+    pub(crate) fn results(&self) -> &Results
+        ensures { result.now ≡ self.now.results }
+    {
+        self.results
+    }
+
+    /// The one chip.
+    pub(crate) fn chip(&self) -> &Chip
+        ensures { result.now ≡ chip_at self.now.results.net 0 }
+    {
+        self.results.net.get(0)
+    }
+
+    /// The chip's entry in the map.
+    pub(crate) fn entry(&self) -> &ChipMap
+        ensures { result.now ≡ chip_map self.now.results 0 }
+    {
+        self.results.map.chips.get(0)
+    }
+
+    /// The slots of the first frame, and none where no frame is there.
+    pub(crate) fn frame_slots(&self) -> &[Slot]
+        ensures { result.now ≡ frame_slots self.now.results 0 }
+    {
+        match self.results.schedule.frames.as_slice() {
+            [] => &[],
+            [frame, ..] => frame.slots.as_slice(),
+        }
+    }
+
+    /// The net of the design that a net of the chip stands for, if the net is there.
+    pub(crate) fn subject(&self, net: ChipNetId) -> Option<NetId>
+        ensures { subject self.now.results 0 net.place ≡ option_map Net result }
+    {
+        self.stands();
+        let entry = self.entry();
+        if u64::from(net.place) < entry.nets.len() {
+            net_of(*entry.nets.get(u64::from(net.place)))
+        } else {
+            None
+        }
+    }
+
+    /// What drives a net, also one that is not there.
+    pub(crate) fn driver(&self, net: NetId) -> Driver
+        ensures { result ≡ driver self.now.design net.place }
+    {
+        self.stands();
+        let design = self.design();
+        if net.place < design.nets() {
+            design.driver(net)
+        } else {
+            Driver::Constant(false)
+        }
+    }
+
+    /// The operation and the input of the gate that drives a net, if a gate does.
+    pub(crate) fn stem(&self, net: NetId) -> Option<(Op, NetId)>
+        ensures { Stem self.now.design net.place result }
+    {
+        self.stands();
+        match self.driver(net) {
+            Driver::Elem(id) => match self.design().elem(id) {
+                Element::Gate { op, inputs, .. } => Some((*op, *inputs.get(0))),
+                _ => None,
+            },
+            _ => None,
+        }
+    }
+}
+
+/// The net that a subject of a plain map is.
+fn net_of(what: Subject) -> Option<NetId>
+    requires { IsNetSubject what }
+    ensures { Some what ≡ option_map Net result }
+{
+    match what {
+        Subject::Net(net) => Some(net),
+        _ => None,
+    }
+}
