@@ -8,3 +8,6 @@ pub mod Together
 pub mod Examples
 pub mod Tests
 pub mod Driven
+pub mod Chips
+pub mod Weighing
+pub mod Acting

@@ -1,3 +1,4 @@
 pub mod OneGateCase
 pub mod Facts
 pub mod Verdict
+pub mod Actions

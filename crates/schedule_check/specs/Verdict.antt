@@ -1,6 +1,6 @@
 -- What the judge is asked of plain results, and when its verdict is right.
 -- The rule is told in docs/RULES.md, "Acceptance".
-use Rattle.std.specs.Prelude.{◌≡◌, ◌<◌, ℕ, Bool, true, false, not, Option, Some, None, [], ◌∷◌, slice_get}
+use Rattle.std.specs.Prelude.{◌≡◌, ◌<◌, ℕ, Bool, true, false, not, Option, Some, None, List, [], ◌∷◌, slice_get, sum_by, codes}
 use Rattle.id_arena.specs.declared.keys.NetId.{NetId}
 use Rattle.id_arena.specs.declared.keys.ElemId.{ElemId}
 use Rattle.design_core.specs.declared.operation.Op.{Op}
@@ -10,14 +10,17 @@ use Rattle.design_core.specs.declared.element.Driver.TheVariants.{Constant, Elem
 use Rattle.design_core.specs.declared.node.NodeId.{NodeId}
 use Rattle.design_core.specs.declared.node.NodeId.TheVariants.{Net, Write}
 use Rattle.design_core.specs.declared.parts.Parts.{Parts}
-use Rattle.design_core.specs.Design.{IsDesign, driver}
+use Rattle.design_core.specs.Design.{IsDesign, driver, port_bits}
 use Rattle.design_core.specs.Dependency.{IsRanked}
+use Rattle.design_core.specs.Influence.{Group}
 use Rattle.design_core.specs.Plain.{IsPlain}
+use Rattle.emu_machine.specs.declared.netlist.EmuGate.{EmuGate}
 use Rattle.emu_machine.specs.declared.place.Place.{Place}
 use Rattle.emu_machine.specs.declared.results.Results.{Results}
 use Rattle.emu_machine.specs.Netlist.{IsNetlist}
-use Rattle.emu_machine.specs.Acceptance.{Case, Influences, Fails, Holds, IsAccepted, rule_number}
+use Rattle.emu_machine.specs.Acceptance.{Case, Influences, Fails, Holds, IsAccepted, rule_number, subject_weight}
 use Rattle.emu_machine.specs.Acceptance as acceptance
+use Rattle.emu_machine.specs.Mapped.{subject}
 use Rattle.emu_machine.specs.Law.{MapFits}
 use Rattle.emu_machine.specs.Plain.{IsPlainResults}
 use Rattle.schedule_check.specs.declared.verdict.Rule.{Rule}
@@ -100,3 +103,11 @@ Meets c rule = Holds c (λ k. inside_all c.design) rule
 -- all rules before one hold of a plain case
 abbrev pub MeetsBefore : Case → acceptance.Rule → Type 0
 MeetsBefore c rule = (other : acceptance.Rule) → rule_number other < rule_number rule → Meets c other
+
+-- the group of all inputs
+abbrev pub all_inputs : Parts → Group
+all_inputs p = record { name = codes "*"; nets = port_bits p.inputs }
+
+-- what some gates of the one chip weigh
+abbrev pub gate_weights : Case → List EmuGate → ℕ
+gate_weights c gates = sum_by (λ gate. subject_weight c.design gate (subject c.results 0 gate.output.place)) gates

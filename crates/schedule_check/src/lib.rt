@@ -7,9 +7,12 @@
 #![tactic(auto)]
 
 pub mod facts;
+mod actions;
+mod frames;
 mod one_gate;
 mod plain_case;
 mod verdict;
+mod weights;
 
 pub use one_gate::{accepted_agrees, is_accepted};
 pub use verdict::{Rule, Verdict};

@@ -1,7 +1,7 @@
 //! A plain case with its parts at hand.
 
 ghost use Rattle.std.specs.Prelude.{[], ◌<◌, ◌≡◌, ◌∷◌, length, option_map, Some};
-ghost use Rattle.design_core.specs.Design.{driver};
+ghost use Rattle.design_core.specs.Design.{driver, includes, port_bits};
 ghost use Rattle.emu_machine.specs.declared.map.Subject.TheVariants.{Net};
 ghost use Rattle.emu_machine.specs.Netlist.{chip_at};
 ghost use Rattle.emu_machine.specs.Mapped.{chip_map, subject};
@@ -10,7 +10,7 @@ ghost use Rattle.emu_machine.specs.State.{frame_slots};
 ghost use Rattle.schedule_check.specs.Verdict.{IsPlainCase, Stem};
 
 use design_core::{Design, Driver, Element, Op};
-use emu_machine::{Chip, ChipMap, Results, Slot, Subject};
+use emu_machine::{Chip, ChipMap, EmuGate, EmuRegister, Frame, Results, Slot, Spot, Subject};
 use id_arena::{ChipNetId, NetId};
 use std::marker::Model;
 
@@ -63,13 +63,6 @@ impl<'a> PlainCase<'a> {
         self.slots
     }
 
-    /// The results.
-    pub(crate) fn results(&self) -> &Results
-        ensures { result.now ≡ self.now.results }
-    {
-        self.results
-    }
-
     /// The one chip.
     pub(crate) fn chip(&self) -> &Chip
         ensures { result.now ≡ chip_at self.now.results.net 0 }
@@ -82,6 +75,41 @@ impl<'a> PlainCase<'a> {
         ensures { result.now ≡ chip_map self.now.results 0 }
     {
         self.results.map.chips.get(0)
+    }
+
+    /// The gates of the chip.
+    pub(crate) fn gates(&self) -> &[EmuGate]
+        ensures { result.now ≡ (chip_at self.now.results.net 0).gates }
+    {
+        self.chip().gates.as_slice()
+    }
+
+    /// The registers of the chip.
+    pub(crate) fn registers(&self) -> &[EmuRegister]
+        ensures { result.now ≡ (chip_at self.now.results.net 0).registers }
+    {
+        self.chip().registers.as_slice()
+    }
+
+    /// For each register of the chip, whether it is kept.
+    pub(crate) fn kept(&self) -> &[bool]
+        ensures { result.now ≡ (chip_map self.now.results 0).kept }
+    {
+        self.entry().kept.as_slice()
+    }
+
+    /// The frames.
+    pub(crate) fn frames(&self) -> &[Frame]
+        ensures { result.now ≡ self.now.results.schedule.frames }
+    {
+        self.results.schedule.frames.as_slice()
+    }
+
+    /// The nets that show the output bits.
+    pub(crate) fn outputs(&self) -> &[Spot]
+        ensures { result.now ≡ self.now.results.map.outputs }
+    {
+        self.results.map.outputs.as_slice()
     }
 
     /// The slots of the first frame, and none where no frame is there.
@@ -117,6 +145,17 @@ impl<'a> PlainCase<'a> {
             design.driver(net)
         } else {
             Driver::Constant(false)
+        }
+    }
+
+    /// Whether a net is a bit of an input port.
+    pub(crate) fn is_input(&self, net: NetId) -> bool
+        ensures { result ≡ includes (port_bits self.now.design.inputs) net.place }
+    {
+        self.stands();
+        match self.driver(net) {
+            Driver::Input => true,
+            _ => false,
         }
     }
 
