@@ -18,6 +18,7 @@ use Rattle.design_core.specs.Plain.{IsPlain, IsPlainElement, IsPlainOp, IsNoCons
 use Rattle.history_law.proofs.Naming.{element_is_driver, driver_is_element, input_is_input_bit, input_bit_is_input, read_bit_is_driver, driver_is_read_bit, number_same}
 use Rattle.marks_law.proofs.Plain.{no}
 use Rattle.schedule_check.specs.Verdict.{Stem}
+use Rattle.schedule_check.proofs.Tests.{false_of}
 
 abbrev pick : Bool → Bool → Bool → Option Driver → Driver
 pick low high input inner =
@@ -122,3 +123,6 @@ module _ (p : Parts) (plain : IsPlain p) where
       let same : g.0 ≡ input = same_Some g.0 input (ap (λ (i : List NetId). slice_get i 0) (sym g.1) ∙ first) in
       let list : inputs ≡ input ∷ [] = g.1 ∙ ap (λ (i : NetId). i ∷ []) same in
       (k, output, e, at ∙ ap (λ (i : List NetId). Some (element.Gate op i output)) list)
+
+pub no_input : (p : Parts) (n : ℕ) → IsDesign p → (driver p n ≡ Input → ⊥) → includes (port_bits p.inputs) n ≡ false
+no_input p n d not = false_of (includes (port_bits p.inputs) n) (λ h. not (input_bit_is_input p n d h).1)

@@ -11,3 +11,4 @@ pub mod Driven
 pub mod Chips
 pub mod Weighing
 pub mod Acting
+pub mod Fitting

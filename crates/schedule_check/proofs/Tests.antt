@@ -60,3 +60,7 @@ sum_step f xs i x low is = sum_by-drop_more f xs i x low ∙ ap (λ y. f y + sum
 
 pub here : {X : Type 0} (xs : List X) (i : ℕ) (x : X) → i < length xs → x ≡ get_or xs i x → slice_get xs i ≡ Some x
 here xs i x low is = slice_get_read xs (length xs) i x refl low is
+
+-- a test with the same outcome as one that comes to a statement
+pub same_test : (a b : Bool) (P : Type 0) → a ≡ b → (b ≡ true) ↔ P → (a ≡ true) ↔ P
+same_test a b P e h = (λ t. h.0 (sym e ∙ t), λ p. e ∙ h.1 p)

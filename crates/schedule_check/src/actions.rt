@@ -114,11 +114,8 @@ fn has_register(case: &PlainCase, chip: ChipId, register: RegId) -> bool
 fn stands_for(case: &PlainCase, chip: ChipId, register: RegId, net: NetId) -> bool
     ensures { result ≡ same_subjects (register_subject case.now chip.place register.place) (Some (Net net)) }
 {
-    if !has_register(case, chip, register) {
-        return false;
-    }
-    match case.subject(case.registers()[register.place as usize].q) {
-        Some(subject) => subject.place == net.place,
+    match case.register(chip, register) {
+        Some(found) => case.stands_for(found.q, net),
         None => false,
     }
 }

@@ -10,6 +10,7 @@ pub mod facts;
 mod actions;
 mod frames;
 mod one_gate;
+mod origins;
 mod plain_case;
 mod verdict;
 mod weights;

@@ -1,17 +1,19 @@
 //! A plain case with its parts at hand.
 
-ghost use Rattle.std.specs.Prelude.{[], ◌<◌, ◌≡◌, ◌∷◌, length, option_map, Some};
+ghost use Rattle.std.specs.Prelude.{[], ◌<◌, ◌≡◌, ◌∷◌, length, option_map, IfSome, Some};
 ghost use Rattle.design_core.specs.Design.{driver, includes, port_bits};
 ghost use Rattle.emu_machine.specs.declared.map.Subject.TheVariants.{Net};
+ghost use Rattle.emu_machine.specs.Acceptance.{register_at, same_subjects};
 ghost use Rattle.emu_machine.specs.Netlist.{chip_at};
 ghost use Rattle.emu_machine.specs.Mapped.{chip_map, subject};
+ghost use Rattle.emu_machine.specs.Origins.{has_subject};
 ghost use Rattle.emu_machine.specs.Plain.{IsNetSubject};
 ghost use Rattle.emu_machine.specs.State.{frame_slots};
 ghost use Rattle.schedule_check.specs.Verdict.{IsPlainCase, Stem};
 
 use design_core::{Design, Driver, Element, Op};
 use emu_machine::{Chip, ChipMap, EmuGate, EmuRegister, Frame, Results, Slot, Spot, Subject};
-use id_arena::{ChipNetId, NetId};
+use id_arena::{ChipId, ChipNetId, NetId, RegId};
 use std::marker::Model;
 
 /// Plain results for a plain design, on a board of one chip.
@@ -91,6 +93,19 @@ impl<'a> PlainCase<'a> {
         self.chip().registers.as_slice()
     }
 
+    /// A register, if it is there.
+    pub(crate) fn register(&self, chip: ChipId, register: RegId) -> Option<EmuRegister>
+        ensures is { result ≡ register_at self.now chip.place register.place }
+        ensures here { IfSome result (λ r. chip.place ≡ 0) }
+    {
+        self.stands();
+        if chip.place == 0 {
+            self.registers().get(register.place as usize).copied()
+        } else {
+            None
+        }
+    }
+
     /// For each register of the chip, whether it is kept.
     pub(crate) fn kept(&self) -> &[bool]
         ensures { result.now ≡ (chip_map self.now.results 0).kept }
@@ -132,6 +147,17 @@ impl<'a> PlainCase<'a> {
             net_of(*entry.nets.get(u64::from(net.place)))
         } else {
             None
+        }
+    }
+
+    /// Whether a net of the chip stands for a net of the design.
+    pub(crate) fn stands_for(&self, place: ChipNetId, net: NetId) -> bool
+        ensures same { result ≡ same_subjects (subject self.now.results 0 place.place) (Some (Net net)) }
+        ensures has { result ≡ has_subject self.now.results 0 place (Net net) }
+    {
+        match self.subject(place) {
+            Some(subject) => subject.place == net.place,
+            None => false,
         }
     }
 
