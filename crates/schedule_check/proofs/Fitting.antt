@@ -60,3 +60,12 @@ module _ (c : Case) (s : IsPlainCase c) where
 
   pub registers_of_a7 : Meets c A7 → list_all (register_fits c.design c.results 0) chip.registers ≡ true
   registers_of_a7 m = none_failed (register_fits c.design c.results 0) chip.registers (λ k f. m (place.Register (record { place = 0 }) (record { place = k })) f)
+
+  -- ## What the tests of the code come to
+
+  pub both_fit : (g r : Bool) → g ≡ list_all (gate_fits c.design c.results 0) chip.gates → r ≡ list_all (register_fits c.design c.results 0) chip.registers
+      → g ≡ true → IsTrue r ↔ Meets c A7
+  both_fit g r ge re h = (λ t. meets_a7 (sym ge ∙ h) (sym re ∙ t), λ m. re ∙ registers_of_a7 m)
+
+  pub gates_misfit : (g : Bool) → g ≡ list_all (gate_fits c.design c.results 0) chip.gates → g ≡ false → IsTrue g ↔ Meets c A7
+  gates_misfit g ge h = (λ t. absurd (not_both g t h), λ m. ge ∙ gates_of_a7 m)

@@ -12,3 +12,4 @@ pub mod Chips
 pub mod Weighing
 pub mod Acting
 pub mod Fitting
+pub mod Copying

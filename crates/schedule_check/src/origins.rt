@@ -12,6 +12,7 @@ ghost use Rattle.emu_machine.specs.Plain.{IsPlainGate, IsPlainRegister};
 ghost use Rattle.schedule_check.specs.Verdict.{Meets};
 
 use crate::plain_case::PlainCase;
+use design_core::Op;
 use emu_machine::{EmuGate, EmuRegister};
 use id_arena::NetId;
 
@@ -60,7 +61,13 @@ fn is_copy(case: &PlainCase, gate: &EmuGate) -> bool
     let Some((op, input)) = case.stem(net) else {
         return false;
     };
-    op == gate.op && reads(case, gate, input)
+    is_same(op, gate.op) && reads(case, gate, input)
+}
+
+fn is_same(op: Op, other: Op) -> bool
+    ensures { IsTrue result ↔ (op ≡ other) }
+{
+    op == other
 }
 
 /// Whether the one input of a gate stands for a net.
