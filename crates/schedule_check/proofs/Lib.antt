@@ -13,3 +13,4 @@ pub mod Weighing
 pub mod Acting
 pub mod Fitting
 pub mod Copying
+pub mod Keeping

@@ -64,3 +64,9 @@ here xs i x low is = slice_get_read xs (length xs) i x refl low is
 -- a test with the same outcome as one that comes to a statement
 pub same_test : (a b : Bool) (P : Type 0) → a ≡ b → (b ≡ true) ↔ P → (a ≡ true) ↔ P
 same_test a b P e h = (λ t. h.0 (sym e ∙ t), λ p. e ∙ h.1 p)
+
+pub take_past : {X : Type 0} (xs : List X) (i : ℕ) → length xs ≤ i → take i xs ≡ xs
+take_past [] zero h = refl
+take_past [] (suc i) h = refl
+take_past (x ∷ xs) zero h = absurd (omega (arith, h))
+take_past (x ∷ xs) (suc i) h = let low : length xs ≤ i = omega (arith, h) in ap (λ ys. x ∷ ys) (take_past xs i low)

@@ -2,3 +2,5 @@ pub mod OneGateCase
 pub mod Facts
 pub mod Verdict
 pub mod Actions
+pub mod Mapped
+pub mod Uses

@@ -9,9 +9,12 @@
 pub mod facts;
 mod actions;
 mod frames;
+mod mapped;
 mod one_gate;
 mod origins;
 mod plain_case;
+mod tables;
+mod uses;
 mod verdict;
 mod weights;
 

@@ -84,7 +84,7 @@ fn stands_for_net(case: &PlainCase, register: EmuRegister) -> bool
     ensures { result ≡ register_fits case.now.design case.now.results 0 register }
 {
     match case.subject(register.q) {
-        Some(net) => net.place < case.design().nets(),
+        Some(net) => net.place < case.nets(),
         None => false,
     }
 }

@@ -1,7 +1,7 @@
 //! A plain case with its parts at hand.
 
 ghost use Rattle.std.specs.Prelude.{[], ◌<◌, ◌≡◌, ◌∷◌, length, option_map, IfSome, Some};
-ghost use Rattle.design_core.specs.Design.{driver, includes, port_bits};
+ghost use Rattle.design_core.specs.Design.{driver, includes, net_count, port_bits};
 ghost use Rattle.emu_machine.specs.declared.map.Subject.TheVariants.{Net};
 ghost use Rattle.emu_machine.specs.Acceptance.{register_at, same_subjects};
 ghost use Rattle.emu_machine.specs.Netlist.{chip_at};
@@ -11,7 +11,7 @@ ghost use Rattle.emu_machine.specs.Plain.{IsNetSubject};
 ghost use Rattle.emu_machine.specs.State.{frame_slots};
 ghost use Rattle.schedule_check.specs.Verdict.{IsPlainCase, Stem};
 
-use design_core::{Design, Driver, Element, Op};
+use design_core::{Design, Driver, Element, Op, Port};
 use emu_machine::{Chip, ChipMap, EmuGate, EmuRegister, Frame, Results, Slot, Spot, Subject};
 use id_arena::{ChipId, ChipNetId, NetId, RegId};
 use std::marker::Model;
@@ -49,6 +49,27 @@ impl<'a> PlainCase<'a> {
         ensures { result.now ≡ self.now.design }
     {
         self.design
+    }
+
+    /// The input ports of the design.
+    pub(crate) fn input_ports(&self) -> &[Port]
+        ensures { result.now ≡ self.now.design.inputs }
+    {
+        self.design.inputs().as_slice()
+    }
+
+    /// The output ports of the design.
+    pub(crate) fn output_ports(&self) -> &[Port]
+        ensures { result.now ≡ self.now.design.outputs }
+    {
+        self.design.outputs().as_slice()
+    }
+
+    /// The number of nets of the design.
+    pub(crate) fn nets(&self) -> u32
+        ensures { result ≡ net_count self.now.design }
+    {
+        self.design.nets()
     }
 
     /// The room of the one chip.
