@@ -1,9 +1,10 @@
 -- A5, A8 and A10 of plain cases: what is asked of each action.
 use Rattle.std.proofs.Common.{◌≡◌, ℕ, zero, suc, ◌+◌, ◌<◌, ◌≤◌, arith, Bool, true, false, not, List, [], ◌∷◌, ◌++◌, length, refl, subst, sym, ap, ◌∙◌}
-use Rattle.std.specs.Prelude.{Option, Some, None, slice_get, IsTrue, ◌↔◌, ◌&&◌}
+use Rattle.std.specs.Prelude.{Option, Some, None, slice_get, IsTrue, ◌↔◌, ◌&&◌, nat_lt, nat_le, bytes_eq}
 use Rattle.std.specs.List.{list_all}
 use Rattle.std.specs.Option.{option_map_or}
 use Rattle.std.proofs.lemmas.Option.{none-some, same_Some}
+use Rattle.std.proofs.lemmas.Bool.Decides.{nat_tests}
 use Rattle.id_arena.specs.declared.wire.Wire.{Wire}
 use Rattle.emu_machine.specs.declared.schedule.Action.{Action}
 use Rattle.emu_machine.specs.declared.schedule.Action.TheVariants as action
@@ -15,10 +16,10 @@ use Rattle.emu_machine.specs.State.{frame_slots}
 use Rattle.emu_machine.specs.Acceptance.{Case, A4, A5, A8, A10, rule_number, action_at, slot_actions, fails_test, action_fits, keeps_subject, sends_inside, send_fits}
 use Rattle.schedule_check.specs.declared.actions.Test.TheVariants.{IsThere, KeepsSubject}
 use Rattle.schedule_check.specs.Actions.{slots_pass, passes}
-use Rattle.schedule_check.specs.Verdict.{IsPlainCase, Meets, inside_all}
+use Rattle.schedule_check.specs.Verdict.{IsPlainCase, Meets, inside_all, all_inputs}
 use Rattle.schedule_check.proofs.Weighing.{OneFrame, one_frame}
 use Rattle.schedule_check.proofs.Tests.{all_here, all_true, one_fails, not_both, true_of}
-use Rattle.marks_law.proofs.Plain.{no, left}
+use Rattle.marks_law.proofs.Plain.{no, left, right}
 
 module _ (c : Case) (s : IsPlainCase c) (a4 : Meets c A4) where
   -- only the first frame has slots
@@ -89,3 +90,14 @@ module _ (c : Case) (s : IsPlainCase c) (a4 : Meets c A4) where
       (λ j x here. sends_nothing x (all_here (action_fits c 0) slot.actions j x (all_here (λ (s : Slot). list_all (action_fits c 0) s.actions) slots t slot (a5_tested.1 a5) at) here))))
       k t j f
   meets_a10 a5 other f = f
+
+  -- there are as many slots as the board has at most
+  pub few_slots : length slots < 4294967296
+  few_slots =
+      let o : OneFrame c s = one_frame c s a4 in
+      let least : nat_le (length o.frame.slots) c.board.slots ≡ true = right (bytes_eq o.frame.group (all_inputs c.design).name && nat_lt 0 (length o.frame.slots)) _ o.fits in
+      let same : length slots ≡ length o.frame.slots = ap (λ (fs : List Frame). length (option_map_or (λ (frame : Frame). frame.slots) (slice_get fs 0) [])) o.one in
+      bounded (length slots) (length o.frame.slots) c.board.slots same least s.few_slots
+    where
+      bounded : (a b k : ℕ) → a ≡ b → nat_le b k ≡ true → k < 4294967296 → a < 4294967296
+      bounded a b k e h l = grind (arith, nat_tests)

@@ -14,3 +14,4 @@ pub mod Acting
 pub mod Fitting
 pub mod Copying
 pub mod Keeping
+pub mod Twice

@@ -70,3 +70,19 @@ take_past [] zero h = refl
 take_past [] (suc i) h = refl
 take_past (x ∷ xs) zero h = absurd (omega (arith, h))
 take_past (x ∷ xs) (suc i) h = let low : length xs ≤ i = omega (arith, h) in ap (λ ys. x ∷ ys) (take_past xs i low)
+
+-- what holds of the first elements and of the next holds of one more
+pub take_at : {X : Type 0} (xs : List X) (i k : ℕ) (x y : X) → slice_get xs i ≡ Some y → (P : X → Type 0)
+    → ((j : ℕ) (z : X) → slice_get (take i xs) j ≡ Some z → P z) → P y → slice_get (take (i + 1) xs) k ≡ Some x → P x
+take_at {X} xs i k x y at P before now h = go xs i k at before (subst (λ (n : ℕ). slice_get (take n xs) k ≡ Some x) next h)
+  where
+    next : i + 1 ≡ suc i
+    next = omega arith
+
+    go : (xs : List X) (i k : ℕ) → slice_get xs i ≡ Some y → ((j : ℕ) (z : X) → slice_get (take i xs) j ≡ Some z → P z)
+        → slice_get (take (suc i) xs) k ≡ Some x → P x
+    go [] i k at before h = absurd (none-some y at)
+    go (z ∷ zs) zero zero at before h = subst P (sym (same_Some z y at) ∙ same_Some z x h) now
+    go (z ∷ zs) zero (suc k) at before h = absurd (none-some x h)
+    go (z ∷ zs) (suc i) zero at before h = before 0 x h
+    go (z ∷ zs) (suc i) (suc k) at before h = go zs i k at (λ j w e. before (suc j) w e) h

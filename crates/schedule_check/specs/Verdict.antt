@@ -44,6 +44,7 @@ pub record IsPlainCase (c : Case) : Type 0 where
   pub room : ℕ
   pub rooms : c.board.rooms ≡ room ∷ []
   pub wires : c.board.wires ≡ []
+  pub few_slots : c.board.slots < 4294967296
   pub design : IsDesign c.design
   pub plain : IsPlain c.design
   pub ranked : IsRanked c.design

@@ -4,6 +4,7 @@ ghost use Rattle.std.specs.Prelude.{◌<◌, ◌↔◌, ◌≡◌, ◌≤◌, �
 ghost use Rattle.std.specs.List.{list_all};
 ghost use Rattle.emu_machine.specs.declared.schedule.Slot.{Slot};
 ghost use Rattle.emu_machine.specs.Acceptance.{A6};
+ghost use Rattle.emu_machine.specs.Netlist.{chip_at};
 ghost use Rattle.schedule_check.specs.Uses.{AreUsedOnce, IsUsedOnce, Stamps, target, target_below};
 ghost use Rattle.schedule_check.specs.Verdict.{Meets, MeetsBefore};
 
@@ -18,9 +19,19 @@ pub(crate) fn uses_are_single(alloc: Global, case: &PlainCase) -> Result<bool, N
     requires { MeetsBefore case.now A6 }
     ensures { IfOk result (λ single. IsTrue single ↔ Meets case.now A6) }
 {
-    case.stands();
     let mut last = blank_stamps(alloc, case.registers().len() as u64)?;
-    Ok(slots_use_once(case.frame_slots(), &mut last))
+    Ok(are_single(case, &mut last))
+}
+
+/// The same, with a place for each register that holds the number of no slot.
+fn are_single(case: &PlainCase, last: &mut List<u32>) -> bool
+    requires before { MeetsBefore case.now A6 }
+    requires count { length last.old ≡ length (chip_at case.now.results.net 0).registers }
+    requires blank { (r : ℕ) → get_or last.old r 0 ≡ 0 }
+    ensures { IsTrue result ↔ Meets case.now A6 }
+{
+    case.stands();
+    slots_use_once(case.frame_slots(), last)
 }
 
 /// For each register the number of no slot.
