@@ -10,3 +10,6 @@ pub mod Plain
 pub mod Limits
 pub mod Names
 pub mod Tables
+pub mod Weight
+pub mod Faults
+pub mod Drives

@@ -1,12 +1,11 @@
 -- The limits of a design.
 -- The rule is told in docs/RULES.md, "Limits".
-use Rattle.std.specs.Prelude.{◌≡◌, ◌≤◌, ◌^◌, ℕ, nat_le, Bool, true, List, length, IsTrue}
+use Rattle.std.specs.Prelude.{◌≤◌, ◌^◌, ℕ, nat_le, Bool, true, length, IsTrue}
 use Rattle.std.specs.List.{list_all, sum_by}
 use Rattle.design_core.specs.declared.operation.Op.{Op}
 use Rattle.design_core.specs.declared.operation.Op.TheVariants.{Table}
 use Rattle.design_core.specs.declared.element.Element.{Element}
 use Rattle.design_core.specs.declared.element.Element.TheVariants as element
-use Rattle.design_core.specs.declared.element.Memory.{Memory}
 use Rattle.design_core.specs.declared.parts.Parts.{Parts}
 use Rattle.design_core.specs.Design.{net_count, port_bits}
 

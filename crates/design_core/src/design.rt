@@ -1,6 +1,6 @@
 //! The design as one value.
 
-ghost use Rattle.std.specs.Prelude.{◌≡◌, ◌<◌, ◌≤◌, Some, length, slice_get};
+ghost use Rattle.std.specs.Prelude.{◌≡◌, ◌<◌, ◌≤◌, IsTrue, Some, length, option_map, slice_get};
 
 use crate::{Driver, Element, Memory, Parts, Port};
 use emu_io::List;
@@ -34,10 +34,11 @@ impl Model for Design {
 }
 
 impl Design {
-    ghost use Rattle.design_core.specs.Design.{IsDesign, driver, net_count};
+    ghost use Rattle.design_core.specs.Design.{IsDesign, driver, element_fits, memory_fits, net_count};
     ghost use Rattle.design_core.specs.Limits.{IsCountable, IsWithin};
     ghost use Rattle.design_core.specs.Names.{IsNamed};
     ghost use Rattle.design_core.specs.Tables.{IsMemoryAt};
+    ghost use Rattle.design_core.specs.Weight.{memory_weight, weight};
 
     /// What holds of every design, for its callers.
     pub fn stands(&self)
@@ -74,17 +75,21 @@ impl Design {
     }
 
     /// The element of this number.
+    #[tactic(auto, using(crate::proofs::Bounds::every))]
     pub fn elem(&self, id: ElemId) -> &Element
         requires { id.place < length self.now.elements }
-        ensures { slice_get self.now.elements id.place ≡ Some result.now }
+        ensures here { slice_get self.now.elements id.place ≡ Some result.now }
+        ensures fits { IsTrue (element_fits self.now result.now) }
     {
         self.parts.elements.get(u64::from(id.place()))
     }
 
     /// The memory of this number.
+    #[tactic(auto, using(crate::proofs::Bounds::every))]
     pub fn mem(&self, id: MemId) -> &Memory
         requires { id.place < length self.now.memories }
-        ensures { slice_get self.now.memories id.place ≡ Some result.now }
+        ensures here { slice_get self.now.memories id.place ≡ Some result.now }
+        ensures fits { IsTrue (memory_fits result.now) }
     {
         self.parts.memories.get(u64::from(id.place()))
     }
@@ -117,5 +122,26 @@ impl Design {
         ensures { result.now ≡ self.now.outputs }
     {
         &self.parts.outputs
+    }
+
+    /// What an element weighs on a chip.
+    pub fn weight(&self, id: ElemId) -> u64
+        requires { id.place < length self.now.elements }
+        ensures { option_map (weight self.now) (slice_get self.now.elements id.place) ≡ Some result }
+    {
+        match self.elem(id) {
+            Element::Gate { inputs, .. } => inputs.len(),
+            Element::Flop(_) | Element::Latch(_) => 8,
+            Element::Memory(id) => self.memory_weight(*id),
+        }
+    }
+
+    /// What a memory weighs.
+    fn memory_weight(&self, id: MemId) -> u64
+        requires { id.place < length self.now.memories }
+        ensures { option_map memory_weight (slice_get self.now.memories id.place) ≡ Some result }
+    {
+        let memory = self.mem(id);
+        (1 << memory.address_bits) * u64::from(memory.width)
     }
 }

@@ -7,15 +7,20 @@
 #![tactic(auto)]
 
 mod design;
+mod drives;
 mod element;
+mod fault;
+mod good;
 mod node;
 mod one_gate;
 mod operation;
+mod owners;
 mod parts;
 mod values;
 
 pub use design::Design;
 pub use element::{Driver, Element, Flop, Latch, Level, Memory, ReadPort, WritePort};
+pub use fault::{DesignFault, LimitKind};
 pub use node::NodeId;
 pub use one_gate::OneGate;
 pub use operation::Op;
