@@ -15,3 +15,5 @@ pub mod Fitting
 pub mod Copying
 pub mod Keeping
 pub mod Twice
+pub mod Reaching
+pub mod Ending

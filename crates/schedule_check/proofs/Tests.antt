@@ -1,10 +1,11 @@
 -- Tests that all elements of a list pass, and small facts on tests and options.
 use Rattle.std.proofs.Common.{◌≡◌, ℕ, zero, suc, ◌+◌, ◌<◌, ◌≤◌, arith, Bool, true, false, not, List, [], ◌∷◌, ◌++◌, length, get_or, drop, take, refl, subst, sym, ap, ◌∙◌}
-use Rattle.std.specs.Prelude.{◌&&◌, ◌||◌, ◌↔◌, Option, Some, None, slice_get, flat_map, sum_by, Contains, is_some, unwrap_or, option_map}
+use Rattle.std.specs.Prelude.{◌&&◌, ◌||◌, ◌↔◌, Option, Some, None, slice_get, flat_map, sum_by, nat_lt, Contains, is_some, unwrap_or, option_map}
 use Rattle.std.specs.List.{list_all, list_any}
 use Rattle.std.specs.Option.{option_map_or}
 use Rattle.std.proofs.lemmas.Option.{none-some, same_Some, slice_get_read}
 use Rattle.std.proofs.lemmas.List.Sums.{sum_by-drop_more}
+use Rattle.std.proofs.lemmas.Bool.Decides.{nat_tests}
 use Rattle.std.proofs.lemmas.List.Folds.{list_all-append}
 use Rattle.marks_law.proofs.Plain.{no, left, right}
 
@@ -86,3 +87,17 @@ take_at {X} xs i k x y at P before now h = go xs i k at before (subst (λ (n : �
     go (z ∷ zs) zero (suc k) at before h = absurd (none-some x h)
     go (z ∷ zs) (suc i) zero at before h = before 0 x h
     go (z ∷ zs) (suc i) (suc k) at before h = go zs i k at (λ j w e. before (suc j) w e) h
+
+-- a number below one more is below, or the last
+pub split_last : {A : Type 0} (r i : ℕ) → r < i + 1 → (r < i → A) → (r ≡ i → A) → A
+split_last {A} r i h f g = go (nat_lt r i) refl
+  where
+    less : nat_lt r i ≡ true → r < i
+    less e = grind (arith, nat_tests)
+
+    last : nat_lt r i ≡ false → r ≡ i
+    last e = grind (arith, nat_tests)
+
+    go : (b : Bool) → nat_lt r i ≡ b → A
+    go true e = f (less e)
+    go false e = g (last e)

@@ -42,6 +42,13 @@ module _ {X : Type 0} (p : X → Bool) where
   count_there : (x : X) (xs : List X) → p x ≡ false → count_by p (x ∷ xs) ≡ 0 + count_by p xs
   count_there x xs e = sum_by-cons (λ y. cond {A = ℕ} (p y) 1 0) x xs ∙ ap (λ b. cond {A = ℕ} b 1 0 + count_by p xs) e
 
+  pub tail_count : (x : X) (xs : List X) → count_by p xs ≤ count_by p (x ∷ xs)
+  tail_count x xs = go (p x) refl
+    where
+      go : (b : Bool) → p x ≡ b → count_by p xs ≤ count_by p (x ∷ xs)
+      go true e = omega (arith, count_here x xs e)
+      go false e = omega (arith, count_there x xs e)
+
   -- an element that passes after another that passes makes two
   pub two_counted : (xs : List X) (j : ℕ) (x : X) → slice_get xs j ≡ Some x → p x ≡ true → list_any p (take j xs) ≡ true → 2 ≤ count_by p xs
   two_counted [] j x at e h = absurd (none-some x at)
@@ -134,7 +141,7 @@ used_once actions i stamp last end counts r = go (is_stamped stamp last r) refl
 
 module _ (c : Case) (s : IsPlainCase c) where
   -- a register that is there is one of the one chip
-  held : (k r : ℕ) → is_hold (register_at c k r) ≡ true → k ≡ 0
+  pub held : (k r : ℕ) → is_hold (register_at c k r) ≡ true → k ≡ 0
   held zero r h = refl
   held (suc k) r h = no (sym (ap (λ (x : Chip). is_hold (slice_get x.registers r)) (other_chip c s k)) ∙ h)
 

@@ -4,3 +4,4 @@ pub mod Verdict
 pub mod Actions
 pub mod Mapped
 pub mod Uses
+pub mod Ends

@@ -8,6 +8,7 @@
 
 pub mod facts;
 mod actions;
+mod ends;
 mod frames;
 mod mapped;
 mod one_gate;
