@@ -58,7 +58,7 @@ unpassed chip source combine n (suc room) e =
     ap (λ (o : Option EmuGate). option_map_or (λ gate. combine gate (map (λ i. on_net chip source combine room i.place) gate.inputs)) o (source n)) e
 
 -- two places with elements that pass make two
-two_places : {X : Type 0} (p : X → Bool) (xs : List X) (i j : ℕ) (x y : X) → slice_get xs i ≡ Some x → slice_get xs j ≡ Some y
+pub two_places : {X : Type 0} (p : X → Bool) (xs : List X) (i j : ℕ) (x y : X) → slice_get xs i ≡ Some x → slice_get xs j ≡ Some y
     → p x ≡ true → p y ≡ true → count_by p xs ≤ 1 → i ≡ j
 two_places p [] i j x y ai aj px py one = absurd (none-some x ai)
 two_places p (z ∷ zs) zero zero x y ai aj px py one = refl

@@ -17,3 +17,4 @@ pub mod Keeping
 pub mod Twice
 pub mod Reaching
 pub mod Ending
+pub mod Rounds

@@ -5,3 +5,5 @@ pub mod Actions
 pub mod Mapped
 pub mod Uses
 pub mod Ends
+pub mod Cycles
+pub mod Outputs

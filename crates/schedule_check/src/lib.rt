@@ -8,11 +8,13 @@
 
 pub mod facts;
 mod actions;
+mod cycles;
 mod ends;
 mod frames;
 mod mapped;
 mod one_gate;
 mod origins;
+mod outputs;
 mod plain_case;
 mod tables;
 mod uses;

@@ -100,6 +100,13 @@ impl<'a> PlainCase<'a> {
         self.results.map.chips.get(0)
     }
 
+    /// The number of nets of the chip.
+    pub(crate) fn chip_nets(&self) -> u32
+        ensures { result ≡ (chip_at self.now.results.net 0).nets }
+    {
+        self.chip().nets
+    }
+
     /// The gates of the chip.
     pub(crate) fn gates(&self) -> &[EmuGate]
         ensures { result.now ≡ (chip_at self.now.results.net 0).gates }
