@@ -18,3 +18,4 @@ pub mod Twice
 pub mod Reaching
 pub mod Ending
 pub mod Rounds
+pub mod Showing

@@ -15,10 +15,9 @@ use Rattle.design_core.specs.Dependency.{IsRanked}
 use Rattle.design_core.specs.Influence.{Group}
 use Rattle.design_core.specs.Plain.{IsPlain}
 use Rattle.emu_machine.specs.declared.netlist.EmuGate.{EmuGate}
-use Rattle.emu_machine.specs.declared.place.Place.{Place}
 use Rattle.emu_machine.specs.declared.results.Results.{Results}
 use Rattle.emu_machine.specs.Netlist.{IsNetlist}
-use Rattle.emu_machine.specs.Acceptance.{Case, Influences, Fails, Holds, IsAccepted, rule_number, subject_weight}
+use Rattle.emu_machine.specs.Acceptance.{Case, Influences, Holds, IsAccepted, rule_number, subject_weight}
 use Rattle.emu_machine.specs.Acceptance as acceptance
 use Rattle.emu_machine.specs.Mapped.{subject}
 use Rattle.emu_machine.specs.Law.{MapFits}
@@ -67,15 +66,15 @@ named A10 = acceptance.A10
 named A11 = acceptance.A11
 named A12 = acceptance.A12
 
--- a rule fails where all rules before it hold
+-- a rule does not hold, and all rules before it do
 pub record FailsFirst (c : Case) (rule : acceptance.Rule) : Type 0 where
   pub inside : ℕ → NodeId → Bool
   pub influences : Influences c inside
   pub earlier : (other : acceptance.Rule) → rule_number other < rule_number rule → Holds c inside other
-  pub at : Place
-  pub here : Fails c inside rule at
+  pub fails : Holds c inside rule → ⊥
 
--- a verdict is right: results are accepted where the twelve rules hold, and else the first rule that fails is named
+-- a verdict is right: results are accepted where the twelve rules hold, and
+-- else the first rule that does not hold is named
 abbrev pub IsRight : Case → Verdict → Type 0
 IsRight c Accepted = IsAccepted c
 IsRight c (Rejected rule) = FailsFirst c (named rule)

@@ -11,6 +11,7 @@ mod actions;
 mod cycles;
 mod ends;
 mod frames;
+mod judging;
 mod mapped;
 mod one_gate;
 mod origins;
@@ -22,6 +23,7 @@ mod verdict;
 mod weights;
 
 pub use one_gate::{accepted_agrees, is_accepted};
+pub use judging::judge;
 pub use verdict::{Rule, Verdict};
 
 #[cfg(test)]

@@ -4,12 +4,15 @@ ghost use Rattle.std.specs.Prelude.{[], ◌<◌, ◌≡◌, ◌∷◌, length, o
 ghost use Rattle.design_core.specs.Design.{driver, includes, net_count, port_bits};
 ghost use Rattle.emu_machine.specs.declared.map.Subject.TheVariants.{Net};
 ghost use Rattle.emu_machine.specs.Acceptance.{register_at, same_subjects};
-ghost use Rattle.emu_machine.specs.Netlist.{chip_at};
+ghost use Rattle.emu_machine.specs.Netlist.{chip_at, IsNetlist};
 ghost use Rattle.emu_machine.specs.Mapped.{chip_map, subject};
 ghost use Rattle.emu_machine.specs.Origins.{has_subject};
-ghost use Rattle.emu_machine.specs.Plain.{IsNetSubject};
+ghost use Rattle.design_core.specs.Dependency.{IsRanked};
+ghost use Rattle.design_core.specs.Plain.{IsPlain};
+ghost use Rattle.emu_machine.specs.Law.{MapFits};
+ghost use Rattle.emu_machine.specs.Plain.{IsNetSubject, IsPlainResults};
 ghost use Rattle.emu_machine.specs.State.{frame_slots};
-ghost use Rattle.schedule_check.specs.Verdict.{IsPlainCase, Stem};
+ghost use Rattle.schedule_check.specs.Verdict.{plain_case, IsPlainCase, Stem};
 
 use design_core::{Design, Driver, Element, Op, Port};
 use emu_machine::{Chip, ChipMap, EmuGate, EmuRegister, Frame, Results, Slot, Spot, Subject};
@@ -37,6 +40,24 @@ impl<'a> Model for PlainCase<'a> {
 }
 
 impl<'a> PlainCase<'a> {
+    /// The case of a plain design and plain results.
+    pub(crate) fn new(design: &'a Design, room: u64, slots: u32, results: &'a Results) -> PlainCase<'a>
+        requires plain { IsPlain design.now }
+        requires ranked { IsRanked design.now }
+        requires results { IsPlainResults results.now }
+        requires mapped { MapFits results.now }
+        requires netlist { IsNetlist results.now.net }
+        ensures { result ≡ plain_case design.now room slots results.now }
+    {
+        design.stands();
+        PlainCase {
+            design,
+            room,
+            slots,
+            results,
+        }
+    }
+
     /// What holds of every plain case, for its callers.
     pub(crate) fn stands(&self)
         ensures { IsPlainCase self.now }
