@@ -6,3 +6,16 @@ pub mod FromRules
 pub mod Histories
 pub mod Together
 pub mod Examples
+pub mod Tests
+pub mod Driven
+pub mod Chips
+pub mod Weighing
+pub mod Acting
+pub mod Fitting
+pub mod Copying
+pub mod Keeping
+pub mod Twice
+pub mod Reaching
+pub mod Ending
+pub mod Rounds
+pub mod Showing

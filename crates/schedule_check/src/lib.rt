@@ -7,9 +7,24 @@
 #![tactic(auto)]
 
 pub mod facts;
+mod actions;
+mod cycles;
+mod ends;
+mod frames;
+mod judging;
+mod mapped;
 mod one_gate;
+mod origins;
+mod outputs;
+mod plain_case;
+mod tables;
+mod uses;
+mod verdict;
+mod weights;
 
 pub use one_gate::{accepted_agrees, is_accepted};
+pub use judging::judge;
+pub use verdict::{Rule, Verdict};
 
 #[cfg(test)]
 mod tests;
