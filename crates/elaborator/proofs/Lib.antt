@@ -1,2 +1,4 @@
 pub mod Guesses
 pub mod Places
+pub mod Sketches
+pub mod Uses

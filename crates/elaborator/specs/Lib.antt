@@ -1,3 +1,5 @@
+pub mod GateNames
+pub mod GateSketch
 pub mod ItemOrder
 pub mod OneGateGuess
 pub mod OneGateText
