@@ -1,4 +1,5 @@
 pub mod GateNames
+pub mod GateParts
 pub mod GateSketch
 pub mod ItemOrder
 pub mod OneGateGuess

@@ -6,6 +6,7 @@
 
 mod fault;
 mod gate_names;
+mod gate_parts;
 mod gate_sketch;
 mod item_order;
 mod one_gate_guess;
