@@ -7,3 +7,9 @@ pub mod Event
 pub mod Influence
 pub mod OneGate
 pub mod Plain
+pub mod Limits
+pub mod Names
+pub mod Tables
+pub mod Weight
+pub mod Faults
+pub mod Drives

@@ -7,7 +7,9 @@
 #![tactic(auto)]
 
 mod design;
+mod drives;
 mod element;
+mod fault;
 mod node;
 mod one_gate;
 mod operation;
@@ -16,6 +18,7 @@ mod values;
 
 pub use design::Design;
 pub use element::{Driver, Element, Flop, Latch, Level, Memory, ReadPort, WritePort};
+pub use fault::{DesignFault, LimitKind};
 pub use node::NodeId;
 pub use one_gate::OneGate;
 pub use operation::Op;
