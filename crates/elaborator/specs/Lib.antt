@@ -1,3 +1,4 @@
+pub mod GateDesign
 pub mod GateNames
 pub mod GateParts
 pub mod GateSketch

@@ -5,6 +5,7 @@
 #![tactic(auto)]
 
 mod fault;
+mod gate_design;
 mod gate_names;
 mod gate_parts;
 mod gate_sketch;
