@@ -1,5 +1,5 @@
 -- A search along a list, one place at a time.
-use Rattle.std.proofs.Common.{◌≡◌, ◌+◌, ◌++◌, ◌<◌, ℕ, Bool, true, false, List, [], ◌∷◌, Some, Option, add-one, ap, append_assoc, drop, drop-cons, get_or, length, map, slice_get, ◌∙◌}
+use Rattle.std.proofs.Common.{◌≡◌, ◌+◌, ◌++◌, ◌<◌, ◌≤◌, ℕ, Bool, true, false, List, [], ◌∷◌, Some, Option, add-one, ap, arith, append_assoc, drop, drop-cons, get_or, length, map, slice_get, sym, ◌∙◌}
 use Rattle.std.proofs.lemmas.Option.{get_or_from_slice_get, slice_get_within}
 use Rattle.std.specs.List.{position_from}
 
@@ -24,3 +24,9 @@ read_on f xs k x y out new all there is more so_far =
     let rest = map f (drop (k + 1) xs) in
     let whole : out ++ f x ∷ rest ≡ all = rw (drop-read xs k x there) at so_far in
     ap (λ l. l ++ rest) more ∙ append_assoc out (y ∷ []) rest ∙ ap (λ z. out ++ z ∷ rest) is ∙ whole
+
+-- a list of one item
+pub single : {X : Type 0} (xs : List X) (x : X) → 1 ≤ length xs → length xs < 2 → x ≡ get_or xs 0 x → xs ≡ x ∷ []
+single [] x some few e = absurd (omega arith)
+single (y ∷ []) x some few e = ap (λ z. z ∷ []) (sym e)
+single (y ∷ z ∷ xs) x some few e = absurd (omega arith)

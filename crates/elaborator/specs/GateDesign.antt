@@ -8,9 +8,10 @@ use Rattle.design_core.specs.Limits.{IsWithin}
 use Rattle.design_core.specs.declared.parts.Parts.{Parts}
 use Rattle.elaborator.specs.declared.fault.ElabFault.{ElabFault}
 use Rattle.elaborator.specs.declared.fault.ElabFault.TheVariants.{NotYet, NoMemory}
+use Rattle.elaborator.specs.declared.gate_design.Tables.{Tables}
 use Rattle.elaborator.specs.declared.gate_sketch.Sketch.{Sketch}
 use Rattle.elaborator.specs.GateNames.{AreDifferent, Name, is_implicit, none_among, text_of}
-use Rattle.elaborator.specs.GateParts.{AreNamed, parts_of}
+use Rattle.elaborator.specs.GateParts.{AreNamed, net_names, own_names, parts_of}
 use Rattle.elaborator.specs.GateSketch.{bare_port, each, sketch_of}
 
 -- The tree is one module that has the name of the top; its header is of bare names, its items are of directions, wires
@@ -53,6 +54,17 @@ abbrev pub OwnTable : List Name → List Name → Result (List Name) ElabFault �
 OwnTable nets names (Ok table) = (table ≡ names) × AreOwn nets names
 OwnTable nets names (Err NotYet) = AreOwn nets names → ⊥
 OwnTable nets names (Err NoMemory) = Unit {0}
+
+-- the tables of a module's names, which are right
+abbrev pub TablesAnswers : (ℕ → Name) → (ℕ → Bool) → List ℕ → Sketch → Result Tables ElabFault → Type 0
+TablesAnswers text implicit header s (Ok tables) =
+    AreNamed text implicit header s
+    × (tables.nets ≡ net_names text implicit header s)
+    × (tables.own ≡ map text (own_names s.primitives))
+    × (length (net_names text implicit header s) ≤ 399998)
+TablesAnswers text implicit header s (Err NotYet) =
+    AreNamed text implicit header s → length (net_names text implicit header s) ≤ 399998 → ⊥
+TablesAnswers text implicit header s (Err NoMemory) = Unit {0}
 
 -- the parts that the lists of a module stand for
 abbrev pub SketchAnswers : (ℕ → Name) → (ℕ → Bool) → Name → List ℕ → Sketch → Result Parts ElabFault → Type 0

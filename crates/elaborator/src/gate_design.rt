@@ -1,9 +1,9 @@
 //! Reading a module of `buf` and `not` gates from its tree.
 
-ghost use Rattle.std.specs.Prelude.{◌≡◌, ◌≤◌, Some, length, map};
-ghost use Rattle.elaborator.specs.GateDesign.{Judges, NetTable, OwnTable, PartsAnswers, SketchAnswers};
-ghost use Rattle.elaborator.specs.GateNames.{is_implicit, text_of};
-ghost use Rattle.elaborator.specs.GateParts.{ArePorts, net_names, own_names, parts_with, ports_among};
+ghost use Rattle.std.specs.Prelude.{◌≡◌, ◌≤◌, Some, length, map, IsTrue};
+ghost use Rattle.elaborator.specs.GateDesign.{Judges, NetTable, OwnTable, PartsAnswers, SketchAnswers, TablesAnswers};
+ghost use Rattle.elaborator.specs.GateNames.{all_among, is_implicit, text_of};
+ghost use Rattle.elaborator.specs.GateParts.{ArePorts, net_names, own_names, parts_with, ports_among, terminals};
 ghost use Rattle.elaborator.specs.GateSketch.{Reads};
 
 use crate::fault::ElabFault;
@@ -19,6 +19,13 @@ use id_arena::Names;
 use std::alloc::Global;
 use verilog_lex::Tokens;
 use verilog_tree::Source;
+
+/// The names of the nets, and those of the primitives that have one, in their orders.
+#[derive(Drop)]
+struct Tables {
+    nets: Names,
+    own: Names,
+}
 
 /// Judges the header and the directions.
 fn check_ports(
@@ -44,7 +51,26 @@ fn check_ports(
     Ok(())
 }
 
-/// The table of the nets' names.
+/// The table of the nets' names, however many.
+fn all_nets(
+    alloc: Global,
+    source: &[u8],
+    tokens: &Tokens,
+    header: &[u32],
+    sketch: &Sketch,
+) -> Result<Names, ElabFault>
+    ensures { Reads (Some (net_names (text_of source.now tokens.now) (is_implicit tokens.now) header.now sketch.now)) result }
+{
+    let places = terminals(alloc, sketch.primitives.as_slice())?;
+    let wires = implicit_places(alloc, tokens, places.as_slice())?;
+    let mut nets = Names::new(alloc);
+    add_names(&mut nets, source, tokens, header)?;
+    add_names(&mut nets, source, tokens, sketch.wires.as_slice())?;
+    add_names(&mut nets, source, tokens, wires.as_slice())?;
+    Ok(nets)
+}
+
+/// The table of the nets' names, where they are not too many.
 fn net_table(
     alloc: Global,
     source: &[u8],
@@ -54,12 +80,7 @@ fn net_table(
 ) -> Result<Names, ElabFault>
     ensures { NetTable (net_names (text_of source.now tokens.now) (is_implicit tokens.now) header.now sketch.now) result }
 {
-    let places = terminals(alloc, sketch.primitives.as_slice())?;
-    let wires = implicit_places(alloc, tokens, places.as_slice())?;
-    let mut nets = Names::new(alloc);
-    add_names(&mut nets, source, tokens, header)?;
-    add_names(&mut nets, source, tokens, sketch.wires.as_slice())?;
-    add_names(&mut nets, source, tokens, wires.as_slice())?;
+    let nets = all_nets(alloc, source, tokens, header, sketch)?;
     if nets.len() > NAME_LIMIT {
         return Err(ElabFault::NotYet);
     }
@@ -82,6 +103,23 @@ fn own_table(
         return Err(ElabFault::NotYet);
     }
     Ok(own)
+}
+
+/// Judges the terminals of primitives.
+fn check_terminals(
+    alloc: Global,
+    source: &[u8],
+    tokens: &Tokens,
+    nets: &Names,
+    primitives: &[Primitive],
+) -> Result<(), ElabFault>
+    ensures { Judges (IsTrue (all_among nets.now (map (text_of source.now tokens.now) (terminals primitives.now)))) result }
+{
+    let places = terminals(alloc, primitives)?;
+    if !are_all_among(nets, source, tokens, places.as_slice()) {
+        return Err(ElabFault::NotYet);
+    }
+    Ok(())
 }
 
 /// Those ports of the header that get a direction here.
@@ -110,23 +148,56 @@ fn parts_with(
     top: &[u8],
     header: &[u32],
     sketch: &Sketch,
-    nets: &Names,
-    own: &Names,
+    tables: &Tables,
 ) -> Result<Parts, ElabFault>
-    requires nets { length nets.now ≤ 399998 }
-    requires own { length own.now ≤ 200000 }
-    ensures { Reads (Some (parts_with (text_of source.now tokens.now) top.now header.now sketch.now nets.now own.now)) result }
+    requires nets { length tables.now.nets ≤ 399998 }
+    requires own { length tables.now.own ≤ 200000 }
+    ensures { Reads (Some (parts_with (text_of source.now tokens.now) top.now header.now sketch.now tables.now.nets tables.now.own)) result }
 {
     let primitives = sketch.primitives.as_slice();
+    let nets = &tables.nets;
     Ok(Parts {
         net_names: net_list(alloc, nets)?,
-        scopes: scope_list(alloc, top, own)?,
+        scopes: scope_list(alloc, top, &tables.own)?,
         elements: elements(alloc, source, tokens, nets, primitives)?,
-        paths: paths(alloc, source, tokens, own, primitives)?,
+        paths: paths(alloc, source, tokens, &tables.own, primitives)?,
         memories: List::new(alloc),
-        inputs: ports_given(alloc, source, tokens, nets, header, sketch.inputs.as_slice())?,
-        outputs: ports_given(alloc, source, tokens, nets, header, sketch.outputs.as_slice())?,
+        inputs: ports_given(
+            alloc,
+            source,
+            tokens,
+            nets,
+            header,
+            sketch.inputs.as_slice(),
+        )?,
+        outputs: ports_given(
+            alloc,
+            source,
+            tokens,
+            nets,
+            header,
+            sketch.outputs.as_slice(),
+        )?,
     })
+}
+
+/// The tables of a module's names, where they are right.
+fn name_tables(
+    alloc: Global,
+    source: &[u8],
+    tokens: &Tokens,
+    header: &[u32],
+    sketch: &Sketch,
+) -> Result<Tables, ElabFault>
+    ensures { TablesAnswers (text_of source.now tokens.now) (is_implicit tokens.now) header.now sketch.now result }
+{
+    check_ports(alloc, source, tokens, header, sketch)?;
+    distinct_names(alloc, source, tokens, sketch.wires.as_slice())?;
+    let nets = net_table(alloc, source, tokens, header, sketch)?;
+    let primitives = sketch.primitives.as_slice();
+    check_terminals(alloc, source, tokens, &nets, primitives)?;
+    let own = own_table(alloc, source, tokens, &nets, primitives)?;
+    Ok(Tables { nets, own })
 }
 
 /// The parts that the lists of a module stand for, where its names are right.
@@ -140,19 +211,11 @@ fn sketch_parts(
 ) -> Result<Parts, ElabFault>
     ensures { SketchAnswers (text_of source.now tokens.now) (is_implicit tokens.now) top.now header.now sketch.now result }
 {
-    let primitives = sketch.primitives.as_slice();
     if sketch.primitives.len() > ELEMENT_LIMIT {
         return Err(ElabFault::NotYet);
     }
-    check_ports(alloc, source, tokens, header, sketch)?;
-    let _wires = distinct_names(alloc, source, tokens, sketch.wires.as_slice())?;
-    let nets = net_table(alloc, source, tokens, header, sketch)?;
-    let places = terminals(alloc, primitives)?;
-    if !are_all_among(&nets, source, tokens, places.as_slice()) {
-        return Err(ElabFault::NotYet);
-    }
-    let own = own_table(alloc, source, tokens, &nets, primitives)?;
-    let parts = parts_with(alloc, source, tokens, top, header, sketch, &nets, &own)?;
+    let tables = name_tables(alloc, source, tokens, header, sketch)?;
+    let parts = parts_with(alloc, source, tokens, top, header, sketch, &tables)?;
     Ok(parts)
 }
 
