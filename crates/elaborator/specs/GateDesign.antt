@@ -4,7 +4,9 @@ use Rattle.std.specs.Prelude.{◌≡◌, ◌<◌, ◌≤◌, ℕ, Bool, IsTrue, 
 use Rattle.verilog_lex.specs.declared.token.Token.{Token}
 use Rattle.verilog_tree.specs.declared.source.Module.{Module}
 use Rattle.verilog_tree.specs.declared.source.Source.{Source}
+use Rattle.design_core.specs.Design.{IsDesign}
 use Rattle.design_core.specs.Limits.{IsWithin}
+use Rattle.design_core.specs.Plain.{IsPlain}
 use Rattle.design_core.specs.declared.parts.Parts.{Parts}
 use Rattle.elaborator.specs.declared.fault.ElabFault.{ElabFault}
 use Rattle.elaborator.specs.declared.fault.ElabFault.TheVariants.{NotYet, NoMemory}
@@ -26,6 +28,30 @@ pub record StandsFor (source : List ℕ) (tokens : List Token) (tree : Source) (
   pub items_read : sketch_of tokens only.items ≡ Some sketch
   pub named : AreNamed (text_of source tokens) (is_implicit tokens) header sketch
   pub parts : p ≡ parts_of (text_of source tokens) (is_implicit tokens) top header sketch
+
+-- a tree describes a design: it stands for these parts, they are within the limits, and they make a design
+pub record Describes (source : List ℕ) (tokens : List Token) (tree : Source) (top : Name) (p : Parts) : Type 0 where
+  pub stands : StandsFor source tokens tree top p
+  pub within : IsWithin p
+  pub design : IsDesign p
+
+-- the design that the tree describes, or, exactly where it describes none, that it is not read yet
+abbrev pub Answers : List ℕ → List Token → Source → Name → Result Parts ElabFault → Type 0
+Answers source tokens tree top (Ok p) = Describes source tokens tree top p
+Answers source tokens tree top (Err NotYet) = (p : Parts) → Describes source tokens tree top p → ⊥
+Answers source tokens tree top (Err NoMemory) = Unit {0}
+
+-- no tree describes two designs
+abbrev pub TreesTellDesignsApart : Type 0
+TreesTellDesignsApart =
+    (source : List ℕ) (tokens : List Token) (tree : Source) (top : Name) (p q : Parts)
+    → Describes source tokens tree top p → Describes source tokens tree top q → p ≡ q
+
+-- what a tree describes is plain
+abbrev pub GateDesignsArePlain : Type 0
+GateDesignsArePlain =
+    (source : List ℕ) (tokens : List Token) (tree : Source) (top : Name) (p : Parts)
+    → Describes source tokens tree top p → IsPlain p
 
 -- the parts of the tree, where they are within the limits, or, exactly where it has no such parts, that it is not read yet
 abbrev pub PartsAnswers : List ℕ → List Token → Source → Name → Result Parts ElabFault → Type 0

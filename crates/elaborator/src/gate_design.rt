@@ -1,7 +1,7 @@
 //! Reading a module of `buf` and `not` gates from its tree.
 
 ghost use Rattle.std.specs.Prelude.{◌≡◌, ◌≤◌, Some, length, map, IsTrue};
-ghost use Rattle.elaborator.specs.GateDesign.{Judges, NetTable, OwnTable, PartsAnswers, SketchAnswers, TablesAnswers};
+ghost use Rattle.elaborator.specs.GateDesign.{GateDesignsArePlain, Judges, NetTable, OwnTable, PartsAnswers, SketchAnswers, TablesAnswers, TreesTellDesignsApart};
 ghost use Rattle.elaborator.specs.GateNames.{all_among, is_implicit, text_of};
 ghost use Rattle.elaborator.specs.GateParts.{ArePorts, net_names, own_names, parts_with, ports_among, terminals};
 ghost use Rattle.elaborator.specs.GateSketch.{Reads};
@@ -240,3 +240,16 @@ pub(crate) fn gate_parts(
     let parts = sketch_parts(alloc, source, tokens, top, header.as_slice(), &sketch)?;
     Ok(parts)
 }
+
+/// A law: no tree describes two designs.
+pub fn trees_tell_designs_apart()
+    ensures { TreesTellDesignsApart }
+{}
+
+/// A law: what a tree describes is plain.
+pub fn gate_designs_are_plain()
+    ensures { GateDesignsArePlain }
+{}
+
+#[cfg(test)]
+mod tests;
