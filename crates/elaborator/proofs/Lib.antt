@@ -1,8 +1,10 @@
+pub mod GoodParts
 pub mod Guesses
 pub mod Joining
 pub mod NoConstants
 pub mod OneReading
 pub mod Places
 pub mod PlainGates
+pub mod Refusals
 pub mod Sketches
 pub mod Uses

@@ -42,7 +42,7 @@ some_same : {X : Type 0} (x y : X) → Some x ≡ Some y → x ≡ y
 some_same x y e = cc
 
 -- each primitive is a `buf` or a `not`
-pub ArePlain : List Primitive → Type 0
+unfoldable pub ArePlain : List Primitive → Type 0
 ArePlain [] = Unit {0}
 ArePlain (p ∷ ps) = IsPlainOp p.op × ArePlain ps
 
@@ -128,11 +128,11 @@ sketch_plain tokens (item ∷ items) s e = go (item_sketch tokens item) refl (sk
     go (Some a) f None later g h = absurd (none_some s h)
     go (Some a) f (Some b) later g h = sketch_none (then_sketch a b) s (both_plain a.primitives b.primitives (item_plain tokens item a f) (later b g)) h
 
-true_first : (a b : Bool) → (a && b) ≡ true → a ≡ true
+pub true_first : (a b : Bool) → (a && b) ≡ true → a ≡ true
 true_first true b e = refl
 true_first false b e = e
 
-true_second : (a b : Bool) → (a && b) ≡ true → b ≡ true
+pub true_second : (a b : Bool) → (a && b) ≡ true → b ≡ true
 true_second true b e = e
 true_second false b e = cc
 
