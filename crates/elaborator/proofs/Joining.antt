@@ -54,7 +54,7 @@ within_limits text top header s nets own few small =
       words = omega arith;
     }
 
-few_names : (ps : List Primitive) → length (own_names ps) ≤ length ps
+pub few_names : (ps : List Primitive) → length (own_names ps) ≤ length ps
 few_names [] = omega arith
 few_names (p ∷ ps) = go p.name (few_names ps)
   where

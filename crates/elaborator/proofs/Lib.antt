@@ -1,3 +1,5 @@
+pub mod Built
+pub mod Counts
 pub mod GoodParts
 pub mod Guesses
 pub mod Joining

@@ -18,7 +18,7 @@ use Rattle.verilog_tree.specs.declared.source.Dir.TheVariants.{Input, Output}
 use Rattle.verilog_tree.specs.declared.source.Expr.{Expr}
 use Rattle.verilog_tree.specs.declared.source.Item.{Item}
 use Rattle.verilog_tree.specs.declared.source.Item.TheVariants.{Ports, Nets, Gates}
-use Rattle.verilog_tree.specs.declared.source.Prim.{Prim}
+use Rattle.verilog_tree.specs.declared.source.GatePart.{GatePart}
 use Rattle.verilog_tree.specs.declared.source.Source.{Source}
 use Rattle.design_core.specs.declared.element.Element.{Element}
 use Rattle.design_core.specs.declared.operation.Op.{Op}
@@ -78,7 +78,7 @@ op_kept op name (a ∷ b ∷ []) p e = go (whole_name a) (whole_name b) e
     go (Some o) (Some i) f = ap (λ (q : Primitive). q.op) (sym (some_same _ p f))
 op_kept op name (a ∷ b ∷ x ∷ xs) p e = absurd (none_some p e)
 
-prims_plain : (op : Op) (prims : List Prim) (ps : List Primitive) → IsPlainOp op → each (primitive_of op) prims ≡ Some ps → ArePlain ps
+prims_plain : (op : Op) (prims : List GatePart) (ps : List Primitive) → IsPlainOp op → each (primitive_of op) prims ≡ Some ps → ArePlain ps
 unfolding ArePlain
 prims_plain op [] ps plain e = subst ArePlain (some_same [] ps e) tt
 prims_plain op (prim ∷ prims) ps plain e = go (primitive_of op prim) refl (each (primitive_of op) prims) (λ qs f. prims_plain op prims qs plain f) refl e
@@ -103,7 +103,7 @@ unfolding ArePlain
 wires_plain None s e = absurd (none_some s e)
 wires_plain (Some names) s e = sketch_none (wires_alone names) s tt e
 
-gates_plain : (op : Option Op) (prims : List Prim) (s : Sketch) → ((o : Op) → op ≡ Some o → IsPlainOp o) → option_and_then (λ o. option_map primitives_alone (each (primitive_of o) prims)) op ≡ Some s → ArePlain s.primitives
+gates_plain : (op : Option Op) (prims : List GatePart) (s : Sketch) → ((o : Op) → op ≡ Some o → IsPlainOp o) → option_and_then (λ o. option_map primitives_alone (each (primitive_of o) prims)) op ≡ Some s → ArePlain s.primitives
 gates_plain None prims s plain e = absurd (none_some s e)
 gates_plain (Some op) prims s plain e = go (each (primitive_of op) prims) refl e
   where
@@ -117,7 +117,7 @@ item_plain tokens (Nets place range nets) s e = wires_plain (option_and_then (ea
 item_plain tokens (Gates place prims) s e = gates_plain (op_at tokens place) prims s (op_at_plain tokens place) e
 item_plain tokens other s e = absurd (none_some s e)
 
-sketch_plain : (tokens : List Token) (items : List Item) (s : Sketch) → sketch_of tokens items ≡ Some s → ArePlain s.primitives
+pub sketch_plain : (tokens : List Token) (items : List Item) (s : Sketch) → sketch_of tokens items ≡ Some s → ArePlain s.primitives
 unfolding ArePlain
 sketch_plain tokens [] s e = sketch_none no_sketch s tt e
 sketch_plain tokens (item ∷ items) s e = go (item_sketch tokens item) refl (sketch_of tokens items) (sketch_plain tokens items) refl e

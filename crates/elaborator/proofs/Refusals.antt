@@ -19,7 +19,7 @@ is_within p Elements w = le-leb _ _ w.elements
 is_within p Words w = le-leb _ _ w.words
 is_within p other w = refl
 
-true_is_not_false : (b : Bool) → b ≡ true → b ≡ false → ⊥
+pub true_is_not_false : (b : Bool) → b ≡ true → b ≡ false → ⊥
 true_is_not_false b e f = (let no : true ≡ false = sym e ∙ f in cc)
 
 once : (p : Parts) (n : ℕ) → IsDesign p → 1 < driver_count p n → ⊥

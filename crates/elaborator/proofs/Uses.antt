@@ -21,7 +21,7 @@ pub is_some-place : (names : List Name) (name : Name) → is_some (place_among n
 is_some-place names name = among_from names name (place_among names name) refl
 
 -- names that differ do so both ways
-apart_back : (a b : Name) → bytes_eq a b ≡ false → bytes_eq b a ≡ false
+pub apart_back : (a b : Name) → bytes_eq a b ≡ false → bytes_eq b a ≡ false
 apart_back a b e =
     false_from_ne_true (bytes_eq b a) (λ same. let flipped = (bytes_eq-Decides a b).1 (sym ((bytes_eq-Decides b a).0 same)) in cc)
 
@@ -104,7 +104,7 @@ among-kept keep (x ∷ xs) name k = go (among-kept keep xs name k) (keep x) refl
         let apart : bytes_eq name x ≡ false = false_from_ne_true (bytes_eq name x) (λ same. let equal : name ≡ x = (bytes_eq-Decides name x).0 same in let no : true ≡ false = sym k ∙ ap keep equal ∙ e in cc) in
         rest ∙ sym (ap (λ b. b || is_among xs name) apart)
 
-abbrev other_than : Name → Name → Bool
+abbrev pub other_than : Name → Name → Bool
 other_than name other = not (bytes_eq name other)
 
 -- what is kept of names with a last one

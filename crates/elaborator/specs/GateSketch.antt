@@ -14,7 +14,7 @@ use Rattle.verilog_tree.specs.declared.source.Item.{Item}
 use Rattle.verilog_tree.specs.declared.source.Item.TheVariants.{Ports, Nets, Gates}
 use Rattle.verilog_tree.specs.declared.source.NetPart.{NetPart}
 use Rattle.verilog_tree.specs.declared.source.PortName.{PortName}
-use Rattle.verilog_tree.specs.declared.source.Prim.{Prim}
+use Rattle.verilog_tree.specs.declared.source.GatePart.{GatePart}
 use Rattle.design_core.specs.declared.operation.Op.{Op}
 use Rattle.design_core.specs.declared.operation.Op.TheVariants.{Buf, Not}
 use Rattle.elaborator.specs.declared.fault.ElabFault.{ElabFault}
@@ -52,7 +52,7 @@ with_terminals op name (output ∷ input ∷ []) =
     (whole_name output)
 with_terminals op name other = None
 
-abbrev pub primitive_of : Op → Prim → Option Primitive
+abbrev pub primitive_of : Op → GatePart → Option Primitive
 primitive_of op prim = with_terminals op prim.name prim.terminals
 
 -- the operation of the word `buf` or `not`

@@ -1,7 +1,7 @@
 //! Reading a module of `buf` and `not` gates from its tree.
 
-ghost use Rattle.std.specs.Prelude.{◌≡◌, ◌≤◌, Some, length, map, IsTrue};
-ghost use Rattle.elaborator.specs.GateDesign.{GateDesignsArePlain, Judges, NetTable, OwnTable, PartsAnswers, SketchAnswers, TablesAnswers, TreesTellDesignsApart};
+ghost use Rattle.std.specs.Prelude.{◌↔◌, ◌≡◌, ◌≤◌, Some, length, map, IsTrue};
+ghost use Rattle.elaborator.specs.GateDesign.{Answers, GateDesignsArePlain, Judges, NetTable, OwnTable, PartsAnswers, SketchAnswers, TablesAnswers, TreesTellDesignsApart};
 ghost use Rattle.elaborator.specs.GateNames.{all_among, is_implicit, text_of};
 ghost use Rattle.elaborator.specs.GateParts.{ArePorts, net_names, own_names, parts_with, ports_among, terminals};
 ghost use Rattle.elaborator.specs.GateSketch.{Reads};
@@ -13,7 +13,7 @@ use crate::gate_parts::{
     scope_list, terminals,
 };
 use crate::gate_sketch::{Primitive, Sketch, append, header_of, sketch_of};
-use design_core::{Parts, Port};
+use design_core::{Design, DesignFault, Parts, Port};
 use emu_io::List;
 use id_arena::Names;
 use std::alloc::Global;
@@ -239,6 +239,42 @@ pub(crate) fn gate_parts(
     let sketch = sketch_of(alloc, tokens, only.items.as_slice())?;
     let parts = sketch_parts(alloc, source, tokens, top, header.as_slice(), &sketch)?;
     Ok(parts)
+}
+
+/// Whether no memory was left for a design.
+fn is_no_memory(fault: &DesignFault) -> bool
+    ensures { IsTrue result ↔ (fault.now ≡ DesignFault.NoMemory) }
+{
+    match fault {
+        DesignFault::NoMemory => true,
+        _ => false,
+    }
+}
+
+/// The design of one module of `buf` and `not` gates that a tree describes.
+///
+/// `NotYet` comes exactly where the tree describes no such design. `tokens` are those of `source`,
+/// and `tree` is theirs. Takes one pass over the tree, and a table of its names.
+pub fn read_gates(
+    alloc: Global,
+    source: &[u8],
+    tokens: &Tokens,
+    tree: &Source,
+    top: &[u8],
+) -> Result<Design, ElabFault>
+    ensures { Answers source.now tokens.now tree.now top.now result }
+{
+    let parts = gate_parts(alloc, source, tokens, tree, top)?;
+    match Design::build(alloc, parts) {
+        Ok(design) => Ok(design),
+        Err(fault) => {
+            if is_no_memory(&fault) {
+                Err(ElabFault::NoMemory)
+            } else {
+                Err(ElabFault::NotYet)
+            }
+        }
+    }
 }
 
 /// A law: no tree describes two designs.

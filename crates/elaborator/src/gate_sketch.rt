@@ -9,7 +9,7 @@ use emu_io::{List, NoMemory};
 use std::alloc::Global;
 use token_words::keyword::{BUF, NOT};
 use verilog_lex::{TokenKind, Tokens};
-use verilog_tree::{Dir, Expr, Item, NetPart, PortName, Prim};
+use verilog_tree::{Dir, Expr, GatePart, Item, NetPart, PortName};
 
 /// A primitive of two terminals, which are names. Names are numbers of tokens.
 #[derive(Clone, Copy, Debug, Drop)]
@@ -54,7 +54,7 @@ fn whole_name(terminal: &Expr) -> Option<u32>
 }
 
 /// A primitive whose output and input are names.
-fn read_primitive(op: Op, prim: &Prim) -> Option<Primitive>
+fn read_primitive(op: Op, prim: &GatePart) -> Option<Primitive>
     ensures { result ≡ primitive_of op prim.now }
 {
     match prim.terminals.as_slice() {
@@ -92,7 +92,11 @@ fn add_wires(wires: &mut List<u32>, nets: &[NetPart]) -> Result<(), ElabFault>
 }
 
 /// Puts primitives of one gate behind others.
-fn add_primitives(primitives: &mut List<Primitive>, op: Op, prims: &[Prim]) -> Result<(), ElabFault>
+fn add_primitives(
+    primitives: &mut List<Primitive>,
+    op: Op,
+    prims: &[GatePart],
+) -> Result<(), ElabFault>
     ensures { Adds (λ xs ys. xs ++ ys) primitives.old primitives.new (each (primitive_of op) prims.now) result }
 {
     'prims: for prim in prims {

@@ -15,7 +15,7 @@ mod one_gate_text;
 mod one_gate_words;
 
 pub use fault::ElabFault;
-pub use gate_design::{gate_designs_are_plain, trees_tell_designs_apart};
+pub use gate_design::{gate_designs_are_plain, read_gates, trees_tell_designs_apart};
 pub use one_gate_text::{one_gate_texts_are_told_apart, read_one_gate};
 
 #[cfg(test)]
