@@ -1,2 +1,12 @@
+pub mod Built
+pub mod Counts
+pub mod GoodParts
 pub mod Guesses
+pub mod Joining
+pub mod NoConstants
+pub mod OneReading
 pub mod Places
+pub mod PlainGates
+pub mod Refusals
+pub mod Sketches
+pub mod Uses

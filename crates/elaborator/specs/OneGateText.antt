@@ -6,8 +6,8 @@ use Rattle.token_words.specs.Word.{Word}
 use Rattle.token_words.specs.Words.{words_of}
 use Rattle.design_core.specs.declared.one_gate.OneGate.{OneGate}
 use Rattle.elaborator.specs.declared.item_order.ItemOrder.{ItemOrder}
-use Rattle.elaborator.specs.declared.one_gate_text.ElabFault.{ElabFault}
-use Rattle.elaborator.specs.declared.one_gate_text.ElabFault.TheVariants.{NotYet, NoMemory}
+use Rattle.elaborator.specs.declared.fault.ElabFault.{ElabFault}
+use Rattle.elaborator.specs.declared.fault.ElabFault.TheVariants.{NotYet, NoMemory}
 use Rattle.elaborator.specs.OneGateWords.{text_words}
 
 -- nets and gates of a module share their names, so that no two may have one

@@ -4,12 +4,19 @@
 //! from the one to the other. `specs/OneGateText.antt` says which texts describe it.
 #![tactic(auto)]
 
+mod fault;
+mod gate_design;
+mod gate_names;
+mod gate_parts;
+mod gate_sketch;
 mod item_order;
 mod one_gate_guess;
 mod one_gate_text;
 mod one_gate_words;
 
-pub use one_gate_text::{ElabFault, one_gate_texts_are_told_apart, read_one_gate};
+pub use fault::ElabFault;
+pub use gate_design::{gate_designs_are_plain, read_gates, trees_tell_designs_apart};
+pub use one_gate_text::{one_gate_texts_are_told_apart, read_one_gate};
 
 #[cfg(test)]
 mod tests;

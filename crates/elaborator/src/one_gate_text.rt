@@ -4,6 +4,7 @@ ghost use Rattle.std.specs.Prelude.{◌↔◌, ◌≡◌, IfOk, IsTrue};
 ghost use Rattle.token_words.specs.Words.{words_of};
 ghost use Rattle.elaborator.specs.OneGateText.{Answers, Describes, HasOwnNames, TextsTellDesignsApart};
 
+use crate::fault::ElabFault;
 use crate::one_gate_guess::{Guess, guessed_design};
 use crate::one_gate_words::text_words;
 use design_core::OneGate;
@@ -11,27 +12,6 @@ use emu_io::NoMemory;
 use std::alloc::Global;
 use token_words::are_words;
 use verilog_lex::Tokens;
-
-/// Why a text was not read.
-#[derive(Clone, Copy, Debug, PartialEq, Eq)]
-pub enum ElabFault {
-    /// The text is none of those that are read so far.
-    NotYet,
-    /// No memory was left.
-    NoMemory,
-}
-
-impl From<NoMemory> for ElabFault {
-    ghost use Rattle.std.specs.Prelude.{◌≡◌};
-    ghost use Rattle.elaborator.specs.declared.one_gate_text.ElabFault.{ElabFault};
-    ghost use Rattle.elaborator.specs.declared.one_gate_text.ElabFault.TheVariants as fault;
-
-    ghost from_gives = { λ _ e. e ≡ fault.NoMemory };
-
-    fn from(_: NoMemory) -> ElabFault {
-        ElabFault::NoMemory
-    }
-}
 
 /// Whether the names that share one space of names differ.
 fn has_own_names(gate: &OneGate) -> bool

@@ -13,7 +13,7 @@ use Rattle.verilog_tree.specs.declared.source.Module.{Module as ModuleTree}
 use Rattle.verilog_tree.specs.declared.source.NamedLink.{NamedLink}
 use Rattle.verilog_tree.specs.declared.source.NetPart.{NetPart}
 use Rattle.verilog_tree.specs.declared.source.PortName.{PortName}
-use Rattle.verilog_tree.specs.declared.source.Prim.{Prim}
+use Rattle.verilog_tree.specs.declared.source.GatePart.{GatePart}
 use Rattle.verilog_tree.specs.Grammar as grammar
 use Rattle.verilog_tree.specs.Grammar.{Is, Commas, Optional, absent, present, IsRange, IsExpr, IsLeft, IsName, name, IsValue, IsNet, IsPair, IsTerminals, terminals, IsPrim, IsLink, IsLinks, no_links, ordered, by_name, IsInst, IsWire, no_wire, a_wire, IsItem, ports_item, nets_item, supply_item, assign_item, gates_item, instances_item, IsPlainPort, plain_port, IsOne, IsPorts, first_port, next_one, next_name, IsHeader, no_header, names, directions, IsHead, no_head, head, Many, none, and_more, IsModule, first_item, more_items}
 use Rattle.verilog_tree.specs.Predict.{Symbol, Begins, Skips, Wrong, after, after_range, number, due, more, source, module_, ports, header, one, port, items, item, wire, range, expr, left, place, value, net, pair, label, prim, inst, links, link, starts, next, fault, Leads}
@@ -82,7 +82,7 @@ label_goes : (ts : List Terminal) (k n m : ℕ) (l : Option ℕ) → Optional (I
 label_goes ts _ _ m _ (absent k) i = label_absent ts k (λ e. (let h : slice_get ts k ≡ Some OpenParen = i.here in cc))
 label_goes ts _ _ m _ (present k n _ (name _ _ j)) i = step [] j refl
 
-prim_goes : (ts : List Terminal) (k n : ℕ) (x : Prim) → IsPrim ts k n x → After ts Semicolon n → Leads ts (prim ∷ []) k [] n
+prim_goes : (ts : List Terminal) (k n : ℕ) (x : GatePart) → IsPrim ts k n x → After ts Semicolon n → Leads ts (prim ∷ []) k [] n
 prim_goes ts _ _ _ (grammar.prim k a b c n l es s i (terminals _ _ _ t two) z) f =
     follow (follow (passes (passes prim_begins (label_goes ts k a b l s i)) (is_goes i)) (terminals_go ts b c es t two (after_end z)))
     (more_ends ts expr CloseParen c n (λ e. cc) z)

@@ -13,7 +13,7 @@ use Rattle.verilog_tree.specs.declared.source.Module.{Module as ModuleTree}
 use Rattle.verilog_tree.specs.declared.source.NamedLink.{NamedLink}
 use Rattle.verilog_tree.specs.declared.source.NetPart.{NetPart}
 use Rattle.verilog_tree.specs.declared.source.PortName.{PortName}
-use Rattle.verilog_tree.specs.declared.source.Prim.{Prim}
+use Rattle.verilog_tree.specs.declared.source.GatePart.{GatePart}
 use Rattle.verilog_tree.specs.Terminal.{code_of, is_plain}
 use Rattle.verilog_tree.specs.Grammar.{Is, Optional, IsRange, IsNamed, IsLeft, IsExpr, IsName, IsValue, IsNet, IsPair, IsPrim, IsLink, IsLinks, IsInst, IsWire, IsItem, IsOne, IsHeader, IsHead, IsModule}
 use Rattle.verilog_tree.specs.Predict.{Symbol, Choice, Begins, Skips, Wrong, is_same, source, module_, ports, header, one, port, items, item, number, due, wire, range, select, select_end, expr, brace, left, place, value, net, pair, label, prim, inst, links, link, more, Closed, IsLater}
@@ -62,7 +62,7 @@ Stands ts value k n = (x : Option Expr) × Optional (IsValue ts) k n x
 Stands ts net k n = (x : NetPart) × IsNet ts k n x
 Stands ts pair k n = (x : AssignPair) × IsPair ts k n x
 Stands ts label k n = (x : Option ℕ) × Optional (IsName ts) k n x
-Stands ts prim k n = (x : Prim) × IsPrim ts k n x
+Stands ts prim k n = (x : GatePart) × IsPrim ts k n x
 Stands ts inst k n = (x : Inst) × IsInst ts k n x
 Stands ts links k n = (x : Links) × Closed ts (IsLinks ts) CloseParen k n x
 Stands ts link k n = (x : NamedLink) × IsLink ts k n x

@@ -10,7 +10,7 @@ use Rattle.verilog_tree.specs.declared.source.IndexRange.{IndexRange}
 use Rattle.verilog_tree.specs.declared.source.Inst.{Inst}
 use Rattle.verilog_tree.specs.declared.source.NamedLink.{NamedLink}
 use Rattle.verilog_tree.specs.declared.source.NetPart.{NetPart}
-use Rattle.verilog_tree.specs.declared.source.Prim.{Prim}
+use Rattle.verilog_tree.specs.declared.source.GatePart.{GatePart}
 use Rattle.verilog_tree.specs.Grammar as grammar
 use Rattle.verilog_tree.specs.Grammar.{Is, Commas, first_item, more_items, Optional, absent, present, IsRange, IsNamed, whole, bit, part, IsLeft, left_named, left_join, IsLefts, left_first, more_lefts, IsExpr, expr_named, expr_constant, expr_join, expr_repeat, IsParts, part_first, more_parts, IsName, name, IsValue, IsNet, IsPair}
 use Rattle.verilog_tree.specs.Predict.{starts}

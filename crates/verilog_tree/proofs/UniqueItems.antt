@@ -16,7 +16,7 @@ use Rattle.verilog_tree.specs.declared.source.Module.{Module as ModuleTree}
 use Rattle.verilog_tree.specs.declared.source.NamedLink.{NamedLink}
 use Rattle.verilog_tree.specs.declared.source.NetPart.{NetPart}
 use Rattle.verilog_tree.specs.declared.source.PortName.{PortName}
-use Rattle.verilog_tree.specs.declared.source.Prim.{Prim}
+use Rattle.verilog_tree.specs.declared.source.GatePart.{GatePart}
 use Rattle.verilog_tree.specs.declared.source.Source.{Source}
 use Rattle.verilog_tree.specs.Grammar as grammar
 use Rattle.verilog_tree.specs.Grammar.{Is, Commas, Optional, absent, present, IsRange, IsExpr, IsName, name, IsValue, IsNet, IsPair, IsTerminals, terminals, IsPrim, IsLink, IsLinks, no_links, ordered, by_name, IsInst, IsWire, no_wire, a_wire, IsItem, ports_item, nets_item, supply_item, assign_item, gates_item, instances_item}
@@ -102,12 +102,12 @@ unique_label ts _ _ _ _ m m' _ _ p (present k n _ (name _ _ j)) (absent k') o o'
     let h : Name ≡ OpenParen = same_terminal p j o' in absurd (let no : ⊥ = cc in no)
 unique_label ts _ _ _ _ m m' _ _ p (present k n _ (name _ _ j)) (present k' n' _ (name _ _ j')) o o' = (is_one p j j', ap (λ x. Some x) p)
 
-pub unique_prim : (ts : List Terminal) (k k' n n' : ℕ) (x x' : Prim) → k ≡ k' → IsPrim ts k n x → IsPrim ts k' n' x' →
+pub unique_prim : (ts : List Terminal) (k k' n n' : ℕ) (x x' : GatePart) → k ≡ k' → IsPrim ts k n x → IsPrim ts k' n' x' →
     After ts Semicolon n → After ts Semicolon n' → (n ≡ n') × (x ≡ x')
 unique_prim ts _ _ _ _ _ _ p (grammar.prim k a b c n l es s i (terminals _ _ _ t two) z) (grammar.prim k' a' b' c' n' l' es' s' i' (terminals _ _ _ t' two') z') f f' =
     let q = unique_label ts k k' a a' b b' l l' p s s' i i' in
     let y = unique_commas ts CloseParen (IsExpr ts) (λ e. cc) (unique_terminal ts) b b' c c' es es' (is_one q.0 i i') t t' z.here z'.here in
-    (is_one y.0 z z', ap (λ (u : Option ℕ). let x : Prim = record { name = u; terminals = es } in x) q.1 ∙ ap (λ (u : List Expr). let x : Prim = record { name = l'; terminals = u } in x) y.1)
+    (is_one y.0 z z', ap (λ (u : Option ℕ). let x : GatePart = record { name = u; terminals = es } in x) q.1 ∙ ap (λ (u : List Expr). let x : GatePart = record { name = l'; terminals = u } in x) y.1)
 
 absent_starts : (ts : List Terminal) (k k' : ℕ) → k ≡ k' → After ts CloseParen k → starts (slice_get ts k') ≡ true → ⊥
 absent_starts ts k k' p (inl f) s = (let g : false ≡ true = sym (ap starts f) ∙ ap starts (ap (slice_get ts) p) ∙ s in cc)

@@ -14,7 +14,7 @@ use Rattle.verilog_tree.specs.declared.source.Module.{Module as ModuleTree}
 use Rattle.verilog_tree.specs.declared.source.NamedLink.{NamedLink}
 use Rattle.verilog_tree.specs.declared.source.NetPart.{NetPart}
 use Rattle.verilog_tree.specs.declared.source.PortName.{PortName}
-use Rattle.verilog_tree.specs.declared.source.Prim.{Prim}
+use Rattle.verilog_tree.specs.declared.source.GatePart.{GatePart}
 use Rattle.verilog_tree.specs.declared.source.Source.{Source}
 use Rattle.verilog_tree.specs.declared.source.Expr.TheVariants as expr
 
@@ -115,7 +115,7 @@ pub data IsTerminals (ts : List Terminal) : ℕ → ℕ → List Expr → Type 0
   terminals : (k n : ℕ) (es : List Expr) → Commas ts (IsExpr ts) k n es → 2 ≤ length es → IsTerminals ts k n es
 
 -- prim = [ NAME ] "(" expr "," expr { "," expr } ")"
-pub data IsPrim (ts : List Terminal) : ℕ → ℕ → Prim → Type 0 where
+pub data IsPrim (ts : List Terminal) : ℕ → ℕ → GatePart → Type 0 where
   prim : (k a b c n : ℕ) (label : Option ℕ) (es : List Expr) →
       Optional (IsName ts) k a label → Is ts a OpenParen b → IsTerminals ts b c es → Is ts c CloseParen n →
       IsPrim ts k n (record { name = label; terminals = es })
@@ -165,7 +165,7 @@ pub data IsItem (ts : List Terminal) : ℕ → ℕ → Item → Type 0 where
       Is ts c Semicolon n → IsItem ts k n (item.Supply k one r names)
   assign_item : (k a b n : ℕ) (pairs : List AssignPair) →
       Is ts k Assign a → Commas ts (IsPair ts) a b pairs → Is ts b Semicolon n → IsItem ts k n (item.Assign k pairs)
-  gates_item : (k a b n : ℕ) (prims : List Prim) →
+  gates_item : (k a b n : ℕ) (prims : List GatePart) →
       Is ts k Gate a → Commas ts (IsPrim ts) a b prims → Is ts b Semicolon n → IsItem ts k n (item.Gates k prims)
   instances_item : (k a b n : ℕ) (insts : List Inst) →
       Is ts k Name a → Commas ts (IsInst ts) a b insts → Is ts b Semicolon n → IsItem ts k n (item.Instances k insts)

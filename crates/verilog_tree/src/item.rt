@@ -7,7 +7,7 @@ ghost use Rattle.verilog_tree.specs.Predict.{Answers, Closed, due, inst, item, i
 use crate::expression::read_range;
 use crate::part::read_list;
 use crate::reader::{Read, Reader, Stop};
-use crate::source::{AssignPair, Dir, Inst, Item, NetPart, Prim};
+use crate::source::{AssignPair, Dir, GatePart, Inst, Item, NetPart};
 use crate::terminal::Terminal;
 use emu_io::List;
 use std::alloc::Global;
@@ -135,7 +135,7 @@ fn read_gates(alloc: Global, reader: &Reader, at: u32) -> Result<Read<Item>, Sto
     requires begun { slice_get reader.now at ≡ Some Terminal.Gate }
     ensures { Answers reader.now (prim ∷ more prim Terminal.Semicolon ∷ []) (λ _ n i. IsItem reader.now at n i) (at + 1) result }
 {
-    let prims = read_list::<Prim>(alloc, reader, at + 1, Terminal::Semicolon)?;
+    let prims = read_list::<GatePart>(alloc, reader, at + 1, Terminal::Semicolon)?;
     Ok(Read {
         node: Item::Gates {
             at,

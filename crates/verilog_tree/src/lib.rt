@@ -27,7 +27,7 @@ mod tests;
 
 pub use parser::{ParseFault, has_one_tree, parse, texts_are_read, words_stand};
 pub use source::{
-    AssignPair, Dir, Expr, IndexRange, Inst, Item, Links, Module, NamedLink, NetPart, PortName,
-    Prim, Source,
+    AssignPair, Dir, Expr, GatePart, IndexRange, Inst, Item, Links, Module, NamedLink, NetPart,
+    PortName, Source,
 };
 pub use terminal::Terminal;

@@ -7,7 +7,7 @@ ghost use Rattle.verilog_tree.specs.Predict.{Answers, Closed, Reads, due, expr, 
 use crate::expression::read_expr;
 use crate::part::{Part, read_rest};
 use crate::reader::{Read, Reader, Stop};
-use crate::source::{Expr, Prim};
+use crate::source::{Expr, GatePart};
 use crate::terminal::Terminal;
 use emu_io::List;
 use std::alloc::Global;
@@ -27,7 +27,7 @@ impl Part for Expr {
 }
 
 /// One primitive of an item.
-impl Part for Prim {
+impl Part for GatePart {
     ghost use Rattle.verilog_tree.specs.Grammar.{IsPrim};
     ghost use Rattle.verilog_tree.specs.Predict.{prim};
 
@@ -35,12 +35,12 @@ impl Part for Prim {
 
     ghost stands = { IsPrim };
 
-    fn read(alloc: Global, reader: &Reader, from: u32) -> Result<Read<Prim>, Stop> {
+    fn read(alloc: Global, reader: &Reader, from: u32) -> Result<Read<GatePart>, Stop> {
         let label = read_label(reader, from);
         let open = reader.expect(label.next, Terminal::OpenParen)?;
         let terminals = read_terminals(alloc, reader, open)?;
         Ok(Read {
-            node: Prim {
+            node: GatePart {
                 name: label.node,
                 terminals: terminals.node,
             },

@@ -72,7 +72,7 @@ pub enum Item {
     /// Primitives; `at` is the word of their gate.
     Gates {
         at: u32,
-        prims: List<Prim>,
+        prims: List<GatePart>,
     },
     /// Instances; `at` is the name of their module.
     Instances {
@@ -97,7 +97,7 @@ pub struct AssignPair {
 
 /// One primitive: its name, if it has one, and its terminals in order.
 #[derive(Debug, Drop)]
-pub struct Prim {
+pub struct GatePart {
     pub name: Option<u32>,
     pub terminals: List<Expr>,
 }

@@ -3,7 +3,7 @@ use Rattle.verilog_tree.specs.Grammar as grammar
 use Rattle.verilog_tree.specs.Grammar.{IsPrim}
 use Rattle.verilog_tree.proofs.Due.{halted, halted_all, follow, passes}
 use Rattle.verilog_tree.proofs.Begins.{prim_begins}
-use Rattle.verilog_tree.proofs.primitive.PrimPart.read.Goals as goal
+use Rattle.verilog_tree.proofs.primitive.GatePartPart.read.Goals as goal
 
 pub returns-in_err-open : goal.returns-in_err-open
 returns-in_err-open c =

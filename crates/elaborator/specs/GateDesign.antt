@@ -1,0 +1,101 @@
+-- Which trees stand for which parts and designs: one module of `buf` and `not` gates.
+-- The rule is told in docs/FORMATS.md, "Flattening".
+use Rattle.std.specs.Prelude.{◌≡◌, ◌<◌, ◌≤◌, ℕ, Bool, IsTrue, Some, List, [], ◌∷◌, length, map, Result, Ok, Err}
+use Rattle.verilog_lex.specs.declared.token.Token.{Token}
+use Rattle.verilog_tree.specs.declared.source.Module.{Module}
+use Rattle.verilog_tree.specs.declared.source.Source.{Source}
+use Rattle.design_core.specs.Design.{IsDesign}
+use Rattle.design_core.specs.Limits.{IsWithin}
+use Rattle.design_core.specs.Plain.{IsPlain}
+use Rattle.design_core.specs.declared.parts.Parts.{Parts}
+use Rattle.elaborator.specs.declared.fault.ElabFault.{ElabFault}
+use Rattle.elaborator.specs.declared.fault.ElabFault.TheVariants.{NotYet, NoMemory}
+use Rattle.elaborator.specs.declared.gate_design.Tables.{Tables}
+use Rattle.elaborator.specs.declared.gate_sketch.Sketch.{Sketch}
+use Rattle.elaborator.specs.GateNames.{AreDifferent, Name, is_implicit, none_among, text_of}
+use Rattle.elaborator.specs.GateParts.{AreNamed, net_names, own_names, parts_of}
+use Rattle.elaborator.specs.GateSketch.{bare_port, each, sketch_of}
+
+-- The tree is one module that has the name of the top; its header is of bare names, its items are of directions, wires
+-- and gates alone; its names are right; and these are its parts.
+pub record StandsFor (source : List ℕ) (tokens : List Token) (tree : Source) (top : Name) (p : Parts) : Type 0 where
+  pub only : Module
+  pub header : List ℕ
+  pub sketch : Sketch
+  pub one_module : tree.modules ≡ only ∷ []
+  pub top_named : text_of source tokens only.name ≡ top
+  pub header_read : each bare_port only.ports ≡ Some header
+  pub items_read : sketch_of tokens only.items ≡ Some sketch
+  pub named : AreNamed (text_of source tokens) (is_implicit tokens) header sketch
+  pub parts : p ≡ parts_of (text_of source tokens) (is_implicit tokens) top header sketch
+
+-- a tree describes a design: it stands for these parts, they are within the limits, and they make a design
+pub record Describes (source : List ℕ) (tokens : List Token) (tree : Source) (top : Name) (p : Parts) : Type 0 where
+  pub stands : StandsFor source tokens tree top p
+  pub within : IsWithin p
+  pub design : IsDesign p
+
+-- the design that the tree describes, or, exactly where it describes none, that it is not read yet
+abbrev pub Answers : List ℕ → List Token → Source → Name → Result Parts ElabFault → Type 0
+Answers source tokens tree top (Ok p) = Describes source tokens tree top p
+Answers source tokens tree top (Err NotYet) = (p : Parts) → Describes source tokens tree top p → ⊥
+Answers source tokens tree top (Err NoMemory) = Unit {0}
+
+-- no tree describes two designs
+abbrev pub TreesTellDesignsApart : Type 0
+TreesTellDesignsApart =
+    (source : List ℕ) (tokens : List Token) (tree : Source) (top : Name) (p q : Parts)
+    → Describes source tokens tree top p → Describes source tokens tree top q → p ≡ q
+
+-- what a tree describes is plain
+abbrev pub GateDesignsArePlain : Type 0
+GateDesignsArePlain =
+    (source : List ℕ) (tokens : List Token) (tree : Source) (top : Name) (p : Parts)
+    → Describes source tokens tree top p → IsPlain p
+
+-- the parts of the tree, where they are within the limits, or, exactly where it has no such parts, that it is not read yet
+abbrev pub PartsAnswers : List ℕ → List Token → Source → Name → Result Parts ElabFault → Type 0
+PartsAnswers source tokens tree top (Ok p) = StandsFor source tokens tree top p × IsWithin p
+PartsAnswers source tokens tree top (Err NotYet) = (p : Parts) → StandsFor source tokens tree top p → IsWithin p → ⊥
+PartsAnswers source tokens tree top (Err NoMemory) = Unit {0}
+
+-- whether something holds
+abbrev pub Judges : Type 0 → Result (Unit {0}) ElabFault → Type 0
+Judges holds (Ok done) = holds
+Judges holds (Err NotYet) = holds → ⊥
+Judges holds (Err NoMemory) = Unit {0}
+
+-- the table of the nets, which are not too many
+abbrev pub NetTable : List Name → Result (List Name) ElabFault → Type 0
+NetTable names (Ok table) = (table ≡ names) × (length names ≤ 399998)
+NetTable names (Err NotYet) = 399998 < length names
+NetTable names (Err NoMemory) = Unit {0}
+
+-- names of primitives, which are all different, and none of which is a net
+pub record AreOwn (nets names : List Name) : Type 0 where
+  pub once : AreDifferent names
+  pub apart : IsTrue (none_among nets names)
+
+abbrev pub OwnTable : List Name → List Name → Result (List Name) ElabFault → Type 0
+OwnTable nets names (Ok table) = (table ≡ names) × AreOwn nets names
+OwnTable nets names (Err NotYet) = AreOwn nets names → ⊥
+OwnTable nets names (Err NoMemory) = Unit {0}
+
+-- the tables of a module's names, which are right
+abbrev pub TablesAnswers : (ℕ → Name) → (ℕ → Bool) → List ℕ → Sketch → Result Tables ElabFault → Type 0
+TablesAnswers text implicit header s (Ok tables) =
+    AreNamed text implicit header s
+    × (tables.nets ≡ net_names text implicit header s)
+    × (tables.own ≡ map text (own_names s.primitives))
+    × (length (net_names text implicit header s) ≤ 399998)
+TablesAnswers text implicit header s (Err NotYet) =
+    AreNamed text implicit header s → length (net_names text implicit header s) ≤ 399998 → ⊥
+TablesAnswers text implicit header s (Err NoMemory) = Unit {0}
+
+-- the parts that the lists of a module stand for
+abbrev pub SketchAnswers : (ℕ → Name) → (ℕ → Bool) → Name → List ℕ → Sketch → Result Parts ElabFault → Type 0
+SketchAnswers text implicit top header s (Ok p) =
+    AreNamed text implicit header s × (p ≡ parts_of text implicit top header s) × IsWithin p
+SketchAnswers text implicit top header s (Err NotYet) =
+    AreNamed text implicit header s → IsWithin (parts_of text implicit top header s) → ⊥
+SketchAnswers text implicit top header s (Err NoMemory) = Unit {0}

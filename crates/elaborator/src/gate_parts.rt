@@ -1,0 +1,213 @@
+//! The parts that a module of `buf` and `not` gates stands for.
+
+ghost use Rattle.std.specs.Prelude.{[], ◌++◌, ◌≡◌, ◌≤◌, ◌∷◌, Some, None, codes, filter, filter_map, flat_map, length, map, IfOk, OnOk};
+ghost use Rattle.design_core.specs.OneGate.{top_name};
+ghost use Rattle.elaborator.specs.GateNames.{is_among, is_implicit, text_of};
+ghost use Rattle.elaborator.specs.GateParts.{element_of, net_of, own_names, own_scope, path_of, port_of, ports_among, scope_of, terminals};
+
+use crate::gate_names::{is_among, is_implicit, text_at};
+use crate::gate_sketch::Primitive;
+use design_core::{Element, NetName, Port, Scope};
+use emu_io::{List, NoMemory, Text};
+use id_arena::{Names, NetId};
+use std::alloc::Global;
+use verilog_lex::Tokens;
+
+/// The greatest number of nets besides the two constants.
+pub(crate) const NAME_LIMIT: u32 = 399_998;
+
+/// The greatest number of elements.
+pub(crate) const ELEMENT_LIMIT: u64 = 200_000;
+
+/// The terminals of primitives in the order of the text.
+pub(crate) fn terminals(alloc: Global, primitives: &[Primitive]) -> Result<List<u32>, NoMemory>
+    ensures { IfOk result (λ places. places ≡ terminals primitives.now) }
+{
+    let mut places = List::new(alloc);
+    'primitives: for primitive in primitives {
+        places.push(primitive.output)?;
+        places.push(primitive.input)?;
+    }
+    Ok(places)
+}
+
+/// Those tokens at which an undeclared name becomes a wire.
+pub(crate) fn implicit_places(
+    alloc: Global,
+    tokens: &Tokens,
+    places: &[u32],
+) -> Result<List<u32>, NoMemory>
+    ensures { IfOk result (λ chosen. chosen ≡ filter (is_implicit tokens.now) places.now) }
+{
+    let mut chosen = List::new(alloc);
+    'places: for place in places {
+        if is_implicit(tokens, *place) {
+            chosen.push(*place)?;
+        }
+    }
+    Ok(chosen)
+}
+
+/// The names of those primitives that have one.
+pub(crate) fn own_names(alloc: Global, primitives: &[Primitive]) -> Result<List<u32>, NoMemory>
+    ensures { IfOk result (λ places. places ≡ own_names primitives.now) }
+{
+    let mut places = List::new(alloc);
+    'primitives: for primitive in primitives {
+        if let Some(name) = primitive.name {
+            places.push(name)?;
+        }
+    }
+    Ok(places)
+}
+
+/// The net of a name; net 0 where no net has it.
+fn net_of(nets: &Names, text: &[u8]) -> NetId
+    requires { length nets.now ≤ 399998 }
+    ensures { result ≡ net_of nets.now text.now }
+{
+    match nets.find(text) {
+        Some(place) => NetId { place: place + 2 },
+        None => NetId { place: 0 },
+    }
+}
+
+/// The scope of a primitive's name; the top where no primitive has it.
+fn scope_of(own: &Names, text: &[u8]) -> u32
+    requires { length own.now ≤ 200000 }
+    ensures { result ≡ scope_of own.now text.now }
+{
+    match own.find(text) {
+        Some(place) => place + 1,
+        None => 0,
+    }
+}
+
+/// A list of one net.
+fn one_net(alloc: Global, net: NetId) -> Result<List<NetId>, NoMemory>
+    ensures { IfOk result (λ nets. nets ≡ net ∷ []) }
+{
+    let mut nets = List::new(alloc);
+    nets.push(net)?;
+    Ok(nets)
+}
+
+/// The gates that primitives are.
+pub(crate) fn elements(
+    alloc: Global,
+    source: &[u8],
+    tokens: &Tokens,
+    nets: &Names,
+    primitives: &[Primitive],
+) -> Result<List<Element>, NoMemory>
+    requires { length nets.now ≤ 399998 }
+    ensures { IfOk result (λ gates. gates ≡ map (element_of (text_of source.now tokens.now) nets.now) primitives.now) }
+{
+    let mut gates = List::new(alloc);
+    'primitives: for primitive in primitives {
+        let input = net_of(nets, text_at(source, tokens, primitive.input));
+        gates.push(Element::Gate {
+            op: primitive.op,
+            inputs: one_net(alloc, input)?,
+            output: net_of(nets, text_at(source, tokens, primitive.output)),
+        })?;
+    }
+    Ok(gates)
+}
+
+/// The scopes in which the paths of primitives end.
+pub(crate) fn paths(
+    alloc: Global,
+    source: &[u8],
+    tokens: &Tokens,
+    own: &Names,
+    primitives: &[Primitive],
+) -> Result<List<u32>, NoMemory>
+    requires { length own.now ≤ 200000 }
+    ensures { IfOk result (λ paths. paths ≡ map (λ p. path_of (text_of source.now tokens.now) own.now p.name) primitives.now) }
+{
+    let mut paths = List::new(alloc);
+    'primitives: for primitive in primitives {
+        let scope = match primitive.name {
+            Some(name) => scope_of(own, text_at(source, tokens, name)),
+            None => 0,
+        };
+        paths.push(scope)?;
+    }
+    Ok(paths)
+}
+
+/// The name of a net of the top.
+fn top_name(alloc: Global, text: &[u8]) -> Result<NetName, NoMemory>
+    ensures { IfOk result (λ name. name ≡ top_name text.now) }
+{
+    Ok(NetName {
+        scope: 0,
+        name: Text::from_bytes(alloc, text)?,
+        index: None,
+    })
+}
+
+/// The names of all nets, the constants first.
+pub(crate) fn net_list(alloc: Global, nets: &Names) -> Result<List<NetName>, NoMemory>
+    ensures { IfOk result (λ names. names ≡ top_name (codes "1'b0") ∷ top_name (codes "1'b1") ∷ map top_name nets.now) }
+{
+    let mut names = List::new(alloc);
+    names.push(top_name(alloc, b"1'b0")?)?;
+    names.push(top_name(alloc, b"1'b1")?)?;
+    'nets: for place in 0..nets.len() {
+        names.push(top_name(alloc, nets.text(place))?)?;
+    }
+    Ok(names)
+}
+
+/// The top and the scopes of primitives below it.
+pub(crate) fn scope_list(alloc: Global, top: &[u8], own: &Names) -> Result<List<Scope>, NoMemory>
+    ensures { IfOk result (λ scopes. scopes ≡ record { parent = None; name = top.now } ∷ map own_scope own.now) }
+{
+    let mut scopes = List::new(alloc);
+    scopes.push(Scope {
+        parent: None,
+        name: Text::from_bytes(alloc, top)?,
+    })?;
+    'own: for place in 0..own.len() {
+        scopes.push(Scope {
+            parent: Some(0),
+            name: Text::from_bytes(alloc, own.text(place))?,
+        })?;
+    }
+    Ok(scopes)
+}
+
+/// A port of one net.
+fn port_of(alloc: Global, nets: &Names, text: &[u8]) -> Result<Port, NoMemory>
+    requires { length nets.now ≤ 399998 }
+    ensures { IfOk result (λ port. port ≡ port_of nets.now text.now) }
+{
+    Ok(Port {
+        name: Text::from_bytes(alloc, text)?,
+        nets: one_net(alloc, net_of(nets, text))?,
+    })
+}
+
+/// Those ports of the header that are among the chosen names.
+pub(crate) fn ports_among(
+    alloc: Global,
+    source: &[u8],
+    tokens: &Tokens,
+    nets: &Names,
+    header: &[u32],
+    chosen: &Names,
+) -> Result<List<Port>, NoMemory>
+    requires { length nets.now ≤ 399998 }
+    ensures { IfOk result (λ ports. ports ≡ ports_among nets.now (map (text_of source.now tokens.now) header.now) chosen.now) }
+{
+    let mut ports = List::new(alloc);
+    'header: for place in header {
+        let text = text_at(source, tokens, *place);
+        if is_among(chosen, text) {
+            ports.push(port_of(alloc, nets, text)?)?;
+        }
+    }
+    Ok(ports)
+}
