@@ -1,6 +1,6 @@
 //! A small design by hand, its readers' answers, and each refusal once.
 
-ghost use Rattle.std.specs.Prelude.{IsTrue};
+ghost use Rattle.std.specs.Prelude.{◌≡◌, IsTrue};
 ghost use Rattle.design_core.specs.Limits.{IsCountable};
 
 use crate::{
@@ -12,7 +12,9 @@ use id_arena::{ElemId, Key, MemId, NetId};
 use std::alloc::Global;
 use std::test::Fail;
 
-fn net(place: u32) -> NetId {
+fn net(place: u32) -> NetId
+    ensures { result ≡ record { place = place } }
+{
     NetId::of(place)
 }
 
@@ -72,22 +74,17 @@ fn memory(alloc: Global) -> Result<Memory, NoMemory> {
 /// and a memory. Nets 4 and 8 are neither driven nor read.
 fn parts(alloc: Global) -> Result<Parts, NoMemory> {
     let mut net_names = List::new(alloc);
-    for (name, scope) in [
-        ("zero", 0u32),
-        ("one", 0),
-        ("a", 0),
-        ("a", 0),
-        ("w", 0),
-        ("n", 0),
-        ("q/~", 1),
-        ("y", 0),
-        ("z", 1),
+    for (name, scope, index) in [
+        ("zero", 0u32, None),
+        ("one", 0, None),
+        ("a", 0, Some(2u32)),
+        ("a", 0, Some(3)),
+        ("w", 0, None),
+        ("n", 0, None),
+        ("q/~", 1, Some(6)),
+        ("y", 0, None),
+        ("z", 1, None),
     ] {
-        let index = if name == "a" || name == "q/~" {
-            Some(net_names.len() as u32)
-        } else {
-            None
-        };
         net_names.push(NetName {
             scope,
             name: Text::from_bytes(alloc, name.as_bytes())?,
