@@ -1,6 +1,6 @@
 //! A small design by hand, its readers' answers, and each refusal once.
 
-ghost use Rattle.std.specs.Prelude.{IsTrue};
+ghost use Rattle.std.specs.Prelude.{◌≡◌, IsTrue};
 ghost use Rattle.design_core.specs.Limits.{IsCountable};
 
 use crate::{
@@ -9,12 +9,12 @@ use crate::{
 };
 use emu_io::{List, NoMemory, Text};
 use id_arena::{ElemId, Key, MemId, NetId};
-use std::alloc::{AllocError, Global};
-use std::fmt::Write;
-use std::str;
+use std::alloc::Global;
 use std::test::Fail;
 
-fn net(place: u32) -> NetId {
+fn net(place: u32) -> NetId
+    ensures { result ≡ record { place = place } }
+{
     NetId::of(place)
 }
 
@@ -74,22 +74,17 @@ fn memory(alloc: Global) -> Result<Memory, NoMemory> {
 /// and a memory. Nets 4 and 8 are neither driven nor read.
 fn parts(alloc: Global) -> Result<Parts, NoMemory> {
     let mut net_names = List::new(alloc);
-    for (name, scope) in [
-        ("zero", 0u32),
-        ("one", 0),
-        ("a", 0),
-        ("a", 0),
-        ("w", 0),
-        ("n", 0),
-        ("q/~", 1),
-        ("y", 0),
-        ("z", 1),
+    for (name, scope, index) in [
+        ("zero", 0u32, None),
+        ("one", 0, None),
+        ("a", 0, Some(2u32)),
+        ("a", 0, Some(3)),
+        ("w", 0, None),
+        ("n", 0, None),
+        ("q/~", 1, Some(6)),
+        ("y", 0, None),
+        ("z", 1, None),
     ] {
-        let index = if name == "a" || name == "q/~" {
-            Some(net_names.len() as u32)
-        } else {
-            None
-        };
         net_names.push(NetName {
             scope,
             name: Text::from_bytes(alloc, name.as_bytes())?,
@@ -218,72 +213,97 @@ fn is_countable(parts: &Parts) -> bool
         && port.nets.len() <= most
 }
 
-/// A fault in few words, or `none` for a design.
-fn told(alloc: Global, parts: Parts) -> Result<String, AllocError> {
+/// The kind of a fault, and the number in it.
+fn kind(fault: &DesignFault) -> (&'static str, u32) {
+    match fault {
+        DesignFault::BadNet { elem } => ("bad", elem.place()),
+        DesignFault::Limit { which } => match which {
+            LimitKind::Inputs => ("inputs", 0),
+            _ => ("limit", 0),
+        },
+        DesignFault::TwoDrivers { net, .. } => ("twice", net.place()),
+        DesignFault::Undriven { net, .. } => ("undriven", net.place()),
+        DesignFault::NoMemory => ("memory", 0),
+    }
+}
+
+/// The name in a fault.
+fn name_in(fault: &DesignFault) -> &[u8] {
+    match fault {
+        DesignFault::TwoDrivers { name, .. } | DesignFault::Undriven { name, .. } => name.bytes(),
+        _ => b"",
+    }
+}
+
+/// Whether building gives just this fault.
+fn refuses(alloc: Global, parts: Parts, word: &str, place: u32, name: &str) -> bool {
     if !is_countable(&parts) {
-        return String::from_str(alloc, "uncountable");
+        return false;
     }
-    let (word, place, name) = match Design::build(alloc, parts) {
-        Ok(_) => ("none", 0, None),
-        Err(DesignFault::BadNet { elem }) => ("bad", elem.place(), None),
-        Err(
-            DesignFault::Limit {
-                which: LimitKind::Inputs,
-            },
-        ) => ("inputs", 0, None),
-        Err(DesignFault::Limit { .. }) => ("limit", 0, None),
-        Err(DesignFault::TwoDrivers { net, name }) => ("twice", net.place(), Some(name)),
-        Err(DesignFault::Undriven { net, name }) => ("undriven", net.place(), Some(name)),
-        Err(DesignFault::NoMemory) => ("memory", 0, None),
-    };
-    let mut text = String::from_str(alloc, word)?;
-    write!(text, " {place}")?;
-    if let Some(name) = name {
-        text.push_str(" ")?;
-        text.push_str(str::from_utf8(name.bytes()).unwrap_or(""))?;
+    match Design::build(alloc, parts) {
+        Ok(_design) => false,
+        Err(fault) => {
+            let told = kind(&fault);
+            told.0 == word && told.1 == place && name_in(&fault) == name.as_bytes()
+        }
     }
-    Ok(text)
+}
+
+/// Whether building gives a design.
+fn stands(alloc: Global, parts: Parts) -> bool {
+    is_countable(&parts) && Design::build(alloc, parts).is_ok()
 }
 
 #[test]
-fn the_first_fault_is_told(rt: HostRuntime) -> Result<(), Fail> {
+fn bad_elements_are_told(rt: HostRuntime) -> Result<(), Fail> {
     let alloc = rt.alloc();
-    let many = [2u32; 65];
-    assert_eq!(rt; told(alloc, parts(alloc)?)?.as_str(), "none 0");
+    assert!(rt; stands(alloc, parts(alloc)?));
     // an element that names no net of the design, and one that is wrong in its number of inputs
     for (inputs, output) in [([2u32, 9].as_slice(), 4), (&[2, 2], 9), (&[], 4)] {
         let bad = with_gate(alloc, Op::And, inputs, output)?;
-        assert_eq!(rt; told(alloc, bad)?.as_str(), "bad 3");
+        assert!(rt; refuses(alloc, bad, "bad", 3, ""));
     }
     let bad = with_gate(alloc, Op::Not, &[2, 3], 4)?;
-    assert_eq!(rt; told(alloc, bad)?.as_str(), "bad 3");
+    assert!(rt; refuses(alloc, bad, "bad", 3, ""));
     let bad = with_gate(alloc, Op::Table(16), &[2, 3], 4)?;
-    assert_eq!(rt; told(alloc, bad)?.as_str(), "bad 3");
+    assert!(rt; refuses(alloc, bad, "bad", 3, ""));
+    Ok(())
+}
+
+#[test]
+fn lists_around_the_elements_are_judged(rt: HostRuntime) -> Result<(), Fail> {
+    let alloc = rt.alloc();
     // a second element for the memory
     let mut bad = parts(alloc)?;
     bad.elements.push(Element::Memory(MemId::of(0)))?;
     bad.paths.push(0)?;
-    assert_eq!(rt; told(alloc, bad)?.as_str(), "bad 3");
+    assert!(rt; refuses(alloc, bad, "bad", 3, ""));
     // a path too many, a memory too many, an output that is not there
     let mut bad = parts(alloc)?;
     bad.paths.push(0)?;
-    assert_eq!(rt; told(alloc, bad)?.as_str(), "bad 3");
+    assert!(rt; refuses(alloc, bad, "bad", 3, ""));
     let mut bad = parts(alloc)?;
     bad.memories.push(memory(alloc)?)?;
-    assert_eq!(rt; told(alloc, bad)?.as_str(), "bad 3");
+    assert!(rt; refuses(alloc, bad, "bad", 3, ""));
     let mut bad = parts(alloc)?;
     bad.outputs = port(alloc, b"y", &[9])?;
-    assert_eq!(rt; told(alloc, bad)?.as_str(), "bad 3");
-    // limits come before drivers, and those before nets without one
+    assert!(rt; refuses(alloc, bad, "bad", 3, ""));
+    Ok(())
+}
+
+#[test]
+fn limits_come_before_drivers(rt: HostRuntime) -> Result<(), Fail> {
+    let alloc = rt.alloc();
+    let many = [2u32; 65];
     let wide = with_gate(alloc, Op::And, &many[..64], 4)?;
-    assert_eq!(rt; told(alloc, wide)?.as_str(), "none 0");
+    assert!(rt; stands(alloc, wide));
     let wide = with_gate(alloc, Op::And, &many, 6)?;
-    assert_eq!(rt; told(alloc, wide)?.as_str(), "inputs 0");
+    assert!(rt; refuses(alloc, wide, "inputs", 0, ""));
     let twice = with_gate(alloc, Op::Buf, &[8], 6)?;
-    assert_eq!(rt; told(alloc, twice)?.as_str(), "twice 6 u~0~11/q/~[6]");
+    assert!(rt; refuses(alloc, twice, "twice", 6, "u~0~11/q/~[6]"));
     let twice = with_gate(alloc, Op::Buf, &[2], 1)?;
-    assert_eq!(rt; told(alloc, twice)?.as_str(), "twice 1 1'b1");
+    assert!(rt; refuses(alloc, twice, "twice", 1, "1'b1"));
     let undriven = with_gate(alloc, Op::Buf, &[8], 4)?;
-    assert_eq!(rt; told(alloc, undriven)?.as_str(), "undriven 8 u~0~11/z");
+    assert!(rt; refuses(alloc, undriven, "undriven", 8, "u~0~11/z"));
     Ok(())
 }
