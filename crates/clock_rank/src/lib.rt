@@ -14,3 +14,6 @@ mod ranked;
 pub use fault::RankFault;
 pub use laws::{cycles_are_unranked, orders_are_sorted, ranks_are_unique};
 pub use ranked::{Ranked, rank};
+
+#[cfg(test)]
+mod tests;
