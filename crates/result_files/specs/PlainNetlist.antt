@@ -22,7 +22,7 @@ numbered letter k = name (letter ++ decimal k)
 abbrev pub net_word : ChipNetId → Word
 net_word n = numbered (codes "n") n.place
 
--- the reserved word of a `not`, or of a `buf`
+-- the reserved word of a plain gate, which is a `not` or a `buf`
 abbrev pub gate_word : Op → ℕ
 gate_word Not = NOT
 gate_word other = BUF
@@ -66,7 +66,7 @@ pub record SaysChip (source : List ℕ) (tokens : List Token) (chip : Chip) : Ty
   pub chip_is : IsChipOf (words_of source tokens) chip
   pub driven : IsNetlist (chip ∷ [])
 
--- fewer than 2^32 tokens stand for at most one chip
+-- a text of fewer than 2^32 tokens writes down at most one chip
 abbrev pub TextsTellChipsApart : Type 0
 TextsTellChipsApart =
     (source : List ℕ) (tokens : List Token) (first second : Chip) → length tokens < 2 ^ 32 → SaysChip source tokens first → SaysChip source tokens second → first ≡ second

@@ -1,4 +1,5 @@
--- What a reader takes from the front of a list of words.
+-- What a reader of netlists takes from the front of a list of words: a line, all lines of one kind,
+-- or nothing. The lines are those of PlainNetlist.antt.
 use Rattle.std.specs.Prelude.{◌≡◌, ◌≢◌, ◌<◌, ◌^◌, ◌⊎◌, ℕ, Bool, true, false, List, [], ◌∷◌, ◌++◌, Option, Some, None, Result, Ok, Err, codes, slice_get, flat_map}
 use Rattle.std.specs.List.{range_with_len, enumerate_from}
 use Rattle.token_words.specs.Word.{Word, key, name}
@@ -19,6 +20,7 @@ abbrev pub Begins : (Word → Type 0) → List Word → Type 0
 Begins IsFirst [] = ⊥
 Begins IsFirst (word ∷ words) = IsFirst word
 
+-- the words that begin the line of a net, of a gate and of a register
 abbrev pub IsWireWord : Word → Type 0
 IsWireWord word = word ≡ key WIRE
 
