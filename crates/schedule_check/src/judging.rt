@@ -46,11 +46,20 @@ pub fn judge(alloc: Global, design: &Design, room: u64, slots: u32, results: &Re
 fn judge_case(alloc: Global, case: &PlainCase) -> Result<Verdict, NoMemory>
     ensures { IfOk result (λ verdict. IsRight case.now verdict) }
 {
-    case.stands();
     let order = gate_order(alloc, case)?;
+    judge_rules(alloc, case, &order)
+}
+
+/// The same, with the order of the gates, if there is one.
+fn judge_rules(alloc: Global, case: &PlainCase, order: &Option<Order>) -> Result<Verdict, NoMemory>
+    requires { Orders case.now order.now }
+    ensures { IfOk result (λ verdict. IsRight case.now verdict) }
+{
+    case.stands();
     'each: for k in 0..12u8 {
         let rule = rule_at(k);
-        if !holds(alloc, case, &order, rule)? {
+        let held = holds(alloc, case, order, rule)?;
+        if !held {
             return Ok(Verdict::Rejected { rule });
         }
     }
