@@ -60,7 +60,7 @@ one_more p k m e here is =
 others_own : (p : Parts) (k : ℕ) (e : Element) (owners : List (Option ElemId)) → slice_get p.elements k ≡ Some e → ((m : ℕ) → is_memory m e ≡ false) → AreOwned p k owners → AreOwned p (k + 1) owners
 others_own p k e owners here other owned = record {
   size = owned.size;
-  each = λ m owner at-m. still p k m owner (no_more p k m e here (other m)) (owned.each m owner at-m)
+  each = λ m owner at-m. still p k m owner (no_more p k m e here (other m)) (owned.each m owner at-m);
 }
 
 -- a memory gets its element
@@ -77,7 +77,7 @@ one_owns p k id owners here none owned = record {
     | inr apart ↦
         let other : is_memory m (element.Memory id) ≡ false = ne_eqb id.place m (λ same. apart (sym same)) in
         still p k m owner (no_more p k m (element.Memory id) here other) (owned.each m owner (sym (get-set_other owners id.place m (Some (record { place = k })) apart) ∙ at-m))
-  ]
+  ];
 }
 
 -- the table after one more element that has its shape

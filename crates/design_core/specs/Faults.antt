@@ -186,6 +186,21 @@ pub record IsLeastUndriven (p : Parts) (n : ℕ) : Type 0 where
   pub here : is_undriven p n ≡ true
   pub earlier : (m : ℕ) → m < n → is_undriven p m ≡ false
 
+-- each net that is read has a driver
+abbrev pub IsDriven : Parts → Type 0
+IsDriven p = (n : ℕ) → is_undriven p n ≡ false
+
+-- each memory is one element
+abbrev pub AreSingle : Parts → Type 0
+AreSingle p = (m : ℕ) → m < length p.memories → count_by (is_memory m) p.elements ≡ 1
+
+-- a fault of drivers alone
+abbrev pub TellsDrivers : Parts → DesignFault → Type 0
+TellsDrivers p (fault.TwoDrivers net name) = IsLeastTwice p net.place × IsNetText p net.place name
+TellsDrivers p (fault.Undriven net name) = IsOnce p × IsLeastUndriven p net.place × IsNetText p net.place name
+TellsDrivers p (fault.NoMemory) = Unit {0}
+TellsDrivers p other = ⊥
+
 pub record IsTwice (p : Parts) (n : ℕ) (name : List ℕ) : Type 0 where
   pub good : AreGood p
   pub limits : IsWithin p

@@ -26,7 +26,9 @@ fn are_there(nets: u64, named: &[NetId]) -> bool
 fn ports_there(nets: u64, ports: &[Port]) -> bool
     ensures { result ≡ ports_there nets ports.now }
 {
-    ports.iter().all(|port| are_there(nets, port.nets.as_slice()))
+    ports
+        .iter()
+        .all(|port| are_there(nets, port.nets.as_slice()))
 }
 
 /// Whether the nets of a reset pin are there.
@@ -92,9 +94,7 @@ fn writes_fit(ports: &[WritePort], address_bits: u64, width: u64) -> bool
         (λ port. (length port.address == address_bits) && (length port.feed == width))
         ports.now }
 {
-    ports
-        .iter()
-        .all(|port| port.address.len() == address_bits && port.feed.len() == width)
+    ports.iter().all(|port| port.address.len() == address_bits && port.feed.len() == width)
 }
 
 /// Whether all read ports have lists of these lengths.
@@ -103,9 +103,7 @@ fn reads_fit(ports: &[ReadPort], address_bits: u64, width: u64) -> bool
         (λ port. (length port.address == address_bits) && (length port.bits == width))
         ports.now }
 {
-    ports
-        .iter()
-        .all(|port| port.address.len() == address_bits && port.bits.len() == width)
+    ports.iter().all(|port| port.address.len() == address_bits && port.bits.len() == width)
 }
 
 /// Whether a memory has at most 16 ports.

@@ -25,7 +25,7 @@ fn memory_fresh(parts: &Parts, owners: &[Option<ElemId>], id: MemId) -> bool
     requires { length owners.now ≡ length parts.now.memories }
     ensures { result
         ≡ (is_free owners.now id.place
-            && memory_good (net_count parts.now) (slice_get parts.now.memories id.place)) }
+        && memory_good (net_count parts.now) (slice_get parts.now.memories id.place)) }
 {
     let place = u64::from(id.place());
     if place >= parts.memories.len() {
@@ -58,12 +58,7 @@ fn scope_there(parts: &Parts, path: Option<u32>) -> bool
 }
 
 /// Whether the element of a place is good.
-fn element_good(
-    parts: &Parts,
-    owners: &[Option<ElemId>],
-    place: usize,
-    element: &Element,
-) -> bool
+fn element_good(parts: &Parts, owners: &[Option<ElemId>], place: usize, element: &Element) -> bool
     requires { AreOwned parts.now place owners.now }
     ensures { result ≡ element_good parts.now (take place parts.now.elements) (slice_get parts.now.paths place) element.now }
 {

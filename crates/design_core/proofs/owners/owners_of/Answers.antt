@@ -23,5 +23,5 @@ elements-preserved c =
     let whole = take_at c.claim.new.owners (drop (length c.claim.new.owners) c.elements.owners.items) c.elements.owners.len size in
     record {
       owned = rw (whole, new) more;
-      good = one_more_good p k c.elements.invariant.good (good_here p k e here good)
+      good = one_more_good p k c.elements.invariant.good (good_here p k e here good);
     }

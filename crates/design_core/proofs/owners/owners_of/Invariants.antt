@@ -6,5 +6,5 @@ use Rattle.design_core.proofs.owners.owners_of.Given as goal
 abbrev pub invariant-elements : goal.invariant-elements
 invariant-elements l = record {
   owned : AreOwned l.parts l.place l.owners.items;
-  good : (k : ℕ) → k < l.place → place_good l.parts k ≡ true
+  good : (k : ℕ) → k < l.place → place_good l.parts k ≡ true;
 }
