@@ -31,7 +31,13 @@ use std::alloc::Global;
 /// no wire, and at most `slots` slots for a frame.
 ///
 /// The work is linear in gates, nets, registers, actions and port bits.
-pub fn judge(alloc: Global, design: &Design, room: u64, slots: u32, results: &Results) -> Result<Verdict, NoMemory>
+pub fn judge(
+    alloc: Global,
+    design: &Design,
+    room: u64,
+    slots: u32,
+    results: &Results,
+) -> Result<Verdict, NoMemory>
     requires plain { IsPlain design.now }
     requires ranked { IsRanked design.now }
     requires results { IsPlainResults results.now }
@@ -89,7 +95,12 @@ fn rule_at(k: u8) -> Rule
 
 /// Whether a rule holds where all rules before it do. There is one chip and one room, and no wire to
 /// send over, so that A1 and A10 hold.
-fn holds(alloc: Global, case: &PlainCase, order: &Option<Order>, rule: Rule) -> Result<bool, NoMemory>
+fn holds(
+    alloc: Global,
+    case: &PlainCase,
+    order: &Option<Order>,
+    rule: Rule,
+) -> Result<bool, NoMemory>
     requires order { Orders case.now order.now }
     requires before { MeetsBefore case.now (named rule) }
     ensures { IfOk result (λ held. IsTrue held ↔ Meets case.now (named rule)) }
