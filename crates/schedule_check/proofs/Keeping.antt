@@ -137,9 +137,9 @@ module _ (c : Case) (s : IsPlainCase c) where
         → i ≡ true → IsTrue o ↔ Meets c A9
     all_mapped i o ins outs ie oe it ot h = (
       λ t.
-      meets_a9
-      (ap (list_all (λ (port : Port). list_all (is_marked table) port.nets)) (sym ie) ∙ sym it ∙ h)
-      (ap (λ (ports : List Port). shown c.results c.results.map.outputs (port_bits ports)) (sym oe) ∙ sym ot ∙ t),
+          meets_a9
+          (ap (list_all (λ (port : Port). list_all (is_marked table) port.nets)) (sym ie) ∙ sym it ∙ h)
+          (ap (λ (ports : List Port). shown c.results c.results.map.outputs (port_bits ports)) (sym oe) ∙ sym ot ∙ t),
       λ m. ot ∙ ap (λ (ports : List Port). shown c.results c.results.map.outputs (port_bits ports)) oe ∙ outputs_of_a9 m,
     )
 

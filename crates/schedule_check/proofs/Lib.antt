@@ -19,3 +19,4 @@ pub mod Reaching
 pub mod Ending
 pub mod Rounds
 pub mod Showing
+pub mod OneByOne

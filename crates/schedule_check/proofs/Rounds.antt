@@ -294,4 +294,3 @@ module _ (c : Case) (s : IsPlainCase c) where
 
     pub fails_a2 : (cycle : List ℕ) → CyclesComeRound → IsCycle rows cycle → Meets c A2 → ⊥
     fails_a2 cycle law is m = m (place.Gate (record { place = 0 }) (slice_index cycle 0)) (leads_back (slice_index cycle 0) (slice_index cycle 0) (law rows cycle is))
-

@@ -116,14 +116,14 @@ module _ (c : Case) (s : IsPlainCase c) where
       → IsTrue (nat_le weight room) ↔ Meets c A3
   room_tested room weight rooms is = (
     λ h.
-    let low : weight ≤ room = is_low weight room h in
-    let r : room ≡ s.room = same in
-    meets_a3 (omega (arith, is)),
+        let low : weight ≤ room = is_low weight room h in
+        let r : room ≡ s.room = same in
+        meets_a3 (omega (arith, is)),
     λ m.
-    below weight room
-    (λ over.
-    let r : room ≡ s.room = same in
-    let f : (at : Place) × FailsA3 c at = fails_a3 (omega (arith, is)) in m f.0 f.1),
+        below weight room
+        (λ over.
+        let r : room ≡ s.room = same in
+        let f : (at : Place) × FailsA3 c at = fails_a3 (omega (arith, is)) in m f.0 f.1),
   )
     where
       same : room ≡ s.room
@@ -140,9 +140,9 @@ module _ (c : Case) (s : IsPlainCase c) where
   frame_tested frame fits one is = (
     λ h. meets_a4 (record { frame = frame; one = one; fits = sym is ∙ h }),
     λ m.
-    let o : OneFrame = one_frame m in
-    let same : o.frame ≡ frame = same_Some o.frame frame (ap (λ (fs : List Frame). slice_get fs 0) (sym o.one ∙ one)) in
-    is ∙ ap (λ (f : Frame). frame_fits c f (all_inputs c.design)) (sym same) ∙ o.fits,
+        let o : OneFrame = one_frame m in
+        let same : o.frame ≡ frame = same_Some o.frame frame (ap (λ (fs : List Frame). slice_get fs 0) (sym o.one ∙ one)) in
+        is ∙ ap (λ (f : Frame). frame_fits c f (all_inputs c.design)) (sym same) ∙ o.fits,
   )
 
   pub no_frame : (length frames ≡ 1 → ⊥) → IsTrue false ↔ Meets c A4

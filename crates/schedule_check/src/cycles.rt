@@ -10,7 +10,7 @@ ghost use Rattle.schedule_check.specs.Verdict.{Meets};
 use crate::plain_case::PlainCase;
 use emu_io::{List, NoMemory};
 use emu_machine::EmuGate;
-use graph_rank::{cycles_come_round, rank_graph, ranked_has_no_cycle, Graph, GraphFault, Order};
+use graph_rank::{Graph, GraphFault, Order, cycles_come_round, rank_graph, ranked_has_no_cycle};
 use id_arena::ChipNetId;
 use std::alloc::Global;
 

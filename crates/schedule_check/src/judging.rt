@@ -31,7 +31,13 @@ use std::alloc::Global;
 /// no wire, and at most `slots` slots for a frame.
 ///
 /// The work is linear in gates, nets, registers, actions and port bits.
-pub fn judge(alloc: Global, design: &Design, room: u64, slots: u32, results: &Results) -> Result<Verdict, NoMemory>
+pub fn judge(
+    alloc: Global,
+    design: &Design,
+    room: u64,
+    slots: u32,
+    results: &Results,
+) -> Result<Verdict, NoMemory>
     requires plain { IsPlain design.now }
     requires ranked { IsRanked design.now }
     requires results { IsPlainResults results.now }
@@ -46,11 +52,20 @@ pub fn judge(alloc: Global, design: &Design, room: u64, slots: u32, results: &Re
 fn judge_case(alloc: Global, case: &PlainCase) -> Result<Verdict, NoMemory>
     ensures { IfOk result (λ verdict. IsRight case.now verdict) }
 {
-    case.stands();
     let order = gate_order(alloc, case)?;
+    judge_rules(alloc, case, &order)
+}
+
+/// The same, with the order of the gates, if there is one.
+fn judge_rules(alloc: Global, case: &PlainCase, order: &Option<Order>) -> Result<Verdict, NoMemory>
+    requires { Orders case.now order.now }
+    ensures { IfOk result (λ verdict. IsRight case.now verdict) }
+{
+    case.stands();
     'each: for k in 0..12u8 {
         let rule = rule_at(k);
-        if !holds(alloc, case, &order, rule)? {
+        let held = holds(alloc, case, order, rule)?;
+        if !held {
             return Ok(Verdict::Rejected { rule });
         }
     }
@@ -80,7 +95,12 @@ fn rule_at(k: u8) -> Rule
 
 /// Whether a rule holds where all rules before it do. There is one chip and one room, and no wire to
 /// send over, so that A1 and A10 hold.
-fn holds(alloc: Global, case: &PlainCase, order: &Option<Order>, rule: Rule) -> Result<bool, NoMemory>
+fn holds(
+    alloc: Global,
+    case: &PlainCase,
+    order: &Option<Order>,
+    rule: Rule,
+) -> Result<bool, NoMemory>
     requires order { Orders case.now order.now }
     requires before { MeetsBefore case.now (named rule) }
     ensures { IfOk result (λ held. IsTrue held ↔ Meets case.now (named rule)) }

@@ -6,10 +6,10 @@
 //! opening and every list of events.
 #![tactic(auto)]
 
-pub mod facts;
 mod actions;
 mod cycles;
 mod ends;
+pub mod facts;
 mod frames;
 mod judging;
 mod mapped;
@@ -22,8 +22,8 @@ mod uses;
 mod verdict;
 mod weights;
 
-pub use one_gate::{accepted_agrees, is_accepted};
 pub use judging::judge;
+pub use one_gate::{accepted_agrees, is_accepted};
 pub use verdict::{Rule, Verdict};
 
 #[cfg(test)]

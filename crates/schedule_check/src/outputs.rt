@@ -15,12 +15,16 @@ use crate::plain_case::PlainCase;
 use crate::tables::blank_table;
 use emu_io::{List, NoMemory};
 use emu_machine::{EmuGate, EmuRegister, Spot};
-use graph_rank::{rankings_are_sorted, Order};
+use graph_rank::{Order, rankings_are_sorted};
 use id_arena::ChipNetId;
 use std::alloc::Global;
 
 /// Whether "before" comes to each output's net from kept registers, through gates alone.
-pub(crate) fn outputs_show_before(alloc: Global, case: &PlainCase, order: &Order) -> Result<bool, NoMemory>
+pub(crate) fn outputs_show_before(
+    alloc: Global,
+    case: &PlainCase,
+    order: &Order,
+) -> Result<bool, NoMemory>
     requires before { MeetsBefore case.now A12 }
     requires order { IsGateOrder (chip_at case.now.results.net 0) order.now }
     ensures { IfOk result (λ shown. IsTrue shown ↔ Meets case.now A12) }
@@ -36,7 +40,7 @@ pub(crate) fn outputs_show_before(alloc: Global, case: &PlainCase, order: &Order
 fn kept_places(alloc: Global, case: &PlainCase) -> Result<List<bool>, NoMemory>
     ensures { IfOk result (λ table. (length table ≡ (chip_at case.now.results.net 0).nets)
         × ((n : ℕ) → n < length table
-            → get_or table n false ≡ kept_by_register (chip_at case.now.results.net 0) (chip_map case.now.results 0) n)) }
+        → get_or table n false ≡ kept_by_register (chip_at case.now.results.net 0) (chip_map case.now.results 0) n)) }
 {
     case.stands();
     let mut table = blank_table(alloc, u64::from(case.chip_nets()))?;

@@ -41,7 +41,12 @@ impl<'a> Model for PlainCase<'a> {
 
 impl<'a> PlainCase<'a> {
     /// The case of a plain design and plain results.
-    pub(crate) fn new(design: &'a Design, room: u64, slots: u32, results: &'a Results) -> PlainCase<'a>
+    pub(crate) fn new(
+        design: &'a Design,
+        room: u64,
+        slots: u32,
+        results: &'a Results,
+    ) -> PlainCase<'a>
         requires plain { IsPlain design.now }
         requires ranked { IsRanked design.now }
         requires results { IsPlainResults results.now }

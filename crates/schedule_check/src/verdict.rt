@@ -23,7 +23,5 @@ pub enum Verdict {
     /// All twelve rules hold.
     Accepted,
     /// This rule fails, and all rules before it hold.
-    Rejected {
-        rule: Rule,
-    },
+    Rejected { rule: Rule },
 }

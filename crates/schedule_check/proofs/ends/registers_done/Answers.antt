@@ -24,7 +24,7 @@ returns-then-not-is_done c =
     let at = slice_get-get_or c.registers-registers.result.now i (record { q = record { place = 0 }; d = None; enable = None }) below in (
       λ t. no t,
       λ done.
-      sym c.if-not-is_done.true
+          sym c.if-not-is_done.true
           ∙ test_is c.args.case.now c.args.given.now c.kept-kept.result.now i (get_or c.registers-registers.result.now i (record { q = record { place = 0 }; d = None; enable = None })) c.get.result.now c.is_done.result c.kept-kept.ensures c.requires.given low c.get.ensures c.is_done.ensures
           ∙ done i _ (ap (λ (rs : List EmuRegister). slice_get rs i) (sym c.registers-registers.ensures) ∙ at),
     )
@@ -47,9 +47,9 @@ each-preserved c r register small there =
 pub returns : goal.returns
 returns c = (
   λ t r register at.
-  let within : r < length (chip_at c.args.case.now.results.net 0).registers = slice_get_within (chip_at c.args.case.now.results.net 0).registers r register at in
-  let end : length c.registers-registers.result.now ≤ c.each.i = c.each-test.false in
-  let same : length c.registers-registers.result.now ≡ length (chip_at c.args.case.now.results.net 0).registers = ap length c.registers-registers.ensures in
-  c.each.invariant r register (omega (arith, within, end, same)) at,
+      let within : r < length (chip_at c.args.case.now.results.net 0).registers = slice_get_within (chip_at c.args.case.now.results.net 0).registers r register at in
+      let end : length c.registers-registers.result.now ≤ c.each.i = c.each-test.false in
+      let same : length c.registers-registers.result.now ≡ length (chip_at c.args.case.now.results.net 0).registers = ap length c.registers-registers.ensures in
+      c.each.invariant r register (omega (arith, within, end, same)) at,
   λ d. refl,
 )

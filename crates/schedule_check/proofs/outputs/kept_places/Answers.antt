@@ -37,7 +37,7 @@ returns c =
     let same : length c.kept-kept.result.now ≡ length c.registers-registers.result.now = ap length c.kept-kept.ensures ∙ (entry_fits c.args.case.now c.stands.ensures).registers ∙ ap length (sym c.registers-registers.ensures) in (
       c.each.invariant.count,
       λ n low.
-      all_kept c.registers-registers.result.now c.kept-kept.result.now c.each.i c.each.table same c.each-test.false c.each.invariant.marks n low
+          all_kept c.registers-registers.result.now c.kept-kept.result.now c.each.i c.each.table same c.each-test.false c.each.invariant.marks n low
           ∙ ap (λ (rs : List EmuRegister). list_any (keeps_place n) (zip rs c.kept-kept.result.now)) c.registers-registers.ensures
           ∙ ap (λ (ks : List Bool). list_any (keeps_place n) (zip (chip_at c.args.case.now.results.net 0).registers ks)) c.kept-kept.ensures,
     )

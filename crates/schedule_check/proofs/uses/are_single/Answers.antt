@@ -22,10 +22,10 @@ slots_use_once-requires-clause-there c =
 pub returns : goal.returns
 returns c = (
   λ t.
-  (a6_tested c.args.case.now c.stands.ensures (c.requires.before A4 (omega arith)) (c.requires.before A5 (omega arith))).0
-  (subst (λ (ss : List Slot). AreUsedOnce ss) c.frame_slots.ensures (c.slots_use_once.ensures.0 t)),
+      (a6_tested c.args.case.now c.stands.ensures (c.requires.before A4 (omega arith)) (c.requires.before A5 (omega arith))).0
+      (subst (λ (ss : List Slot). AreUsedOnce ss) c.frame_slots.ensures (c.slots_use_once.ensures.0 t)),
   λ m.
-  c.slots_use_once.ensures.1
-  (subst (λ (ss : List Slot). AreUsedOnce ss) (sym c.frame_slots.ensures)
-  ((a6_tested c.args.case.now c.stands.ensures (c.requires.before A4 (omega arith)) (c.requires.before A5 (omega arith))).1 m)),
+      c.slots_use_once.ensures.1
+      (subst (λ (ss : List Slot). AreUsedOnce ss) (sym c.frame_slots.ensures)
+      ((a6_tested c.args.case.now c.stands.ensures (c.requires.before A4 (omega arith)) (c.requires.before A5 (omega arith))).1 m)),
 )

@@ -12,7 +12,7 @@ pub returns-then-not-uses_once : goal.returns-then-not-uses_once
 returns-then-not-uses_once c = (
   λ t. no t,
   λ all.
-  sym c.if-not-uses_once.true
+      sym c.if-not-uses_once.true
       ∙ c.uses_once.ensures.once.1
       (subst (λ (xs : List Action). IsUsedOnce xs) (sym c.as_slice.ensures)
       (all c.each.slot-index c.slot-item.result (here c.args.slots.now c.each.slot-index c.slot-item.result c.each-test.true c.slot-item.is))),
@@ -27,9 +27,9 @@ each-preserved c =
       once =
           λ t slot at.
           take_at c.args.slots.now c.each.slot-index t slot c.slot-item.result (here c.args.slots.now c.each.slot-index c.slot-item.result c.each-test.true c.slot-item.is) (λ (x : Slot). IsUsedOnce x.actions)
-              (λ k y there. c.each.invariant.once k y there)
-              (subst (λ (xs : List Action). IsUsedOnce xs) c.as_slice.ensures (c.uses_once.ensures.once.0 c.if-not-uses_once.false))
-              at;
+          (λ k y there. c.each.invariant.once k y there)
+          (subst (λ (xs : List Action). IsUsedOnce xs) c.as_slice.ensures (c.uses_once.ensures.once.0 c.if-not-uses_once.false))
+          at;
     }
 
 pub returns : goal.returns

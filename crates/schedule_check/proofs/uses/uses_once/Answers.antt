@@ -9,10 +9,10 @@ pub returns-then-not-is_first_use-clause-once : goal.returns-then-not-is_first_u
 returns-then-not-is_first_use-clause-once c = (
   λ t. no t,
   λ once.
-  absurd
-  (used_twice c.args.actions.now c.each.action-index c.args.stamp _ c.each.last c.is_first_use.new.last
-  (slice_get-get_or c.args.actions.now c.each.action-index _ c.each-test.true)
-  c.each.invariant.counts c.if-not-is_first_use.ensures once),
+      absurd
+      (used_twice c.args.actions.now c.each.action-index c.args.stamp _ c.each.last c.is_first_use.new.last
+      (slice_get-get_or c.args.actions.now c.each.action-index _ c.each-test.true)
+      c.each.invariant.counts c.if-not-is_first_use.ensures once),
 )
 
 pub returns-clause-once : goal.returns-clause-once

@@ -36,18 +36,18 @@ no_other p plain n k e d is elem at not j driven =
 pub get-requires : goal.get-requires
 get-requires c =
     has_input c.args.self.now.design c.stands.ensures.plain c.args.net.place c.in-Elem.id c.in-Gate.op c.in-Gate.inputs c.in-Gate.output (sym c.driver.ensures ∙ c.in-Elem.is)
-    (element_is _ c.design.result.now c.in-Elem.id.place _ c.design.ensures c.elem.ensures ∙ ap Some c.in-Gate.is)
+    (element_is _ c.design.result.now c.in-Elem.id.place _ c.design.ensures c.elem.ensures.here ∙ ap Some c.in-Gate.is)
 
 -- src/plain_case.rt:124:5
 pub returns-in-Gate : goal.returns-in-Gate
 returns-in-Gate c =
     stem_some c.args.self.now.design c.stands.ensures.plain c.args.net.place c.in-Elem.id c.in-Gate.op c.in-Gate.inputs c.in-Gate.output c.get.result.now (sym c.driver.ensures ∙ c.in-Elem.is)
-    (element_is _ c.design.result.now c.in-Elem.id.place _ c.design.ensures c.elem.ensures ∙ ap Some c.in-Gate.is)
+    (element_is _ c.design.result.now c.in-Elem.id.place _ c.design.ensures c.elem.ensures.here ∙ ap Some c.in-Gate.is)
     c.get.ensures
 
 -- src/plain_case.rt:124:5
 pub returns-in_default-elem : goal.returns-in_default-elem
 returns-in_default-elem c =
     no_other c.args.self.now.design c.stands.ensures.plain c.args.net.place c.in-Elem.id c.elem.result.now c.driver.result c.driver.ensures c.in-Elem.is
-    (element_is _ c.design.result.now c.in-Elem.id.place _ c.design.ensures c.elem.ensures)
+    (element_is _ c.design.result.now c.in-Elem.id.place _ c.design.ensures c.elem.ensures.here)
     c.in_default-elem.not-Gate
