@@ -2,7 +2,7 @@
 
 ghost use Rattle.std.specs.Prelude.{◌<◌, ◌^◌, length};
 
-use super::gate_parts;
+use super::{gate_designs_are_plain, gate_parts, read_gates, trees_tell_designs_apart};
 use crate::fault::ElabFault;
 use design_core::{Element, Op, Parts, Port};
 use emu_io::List;
@@ -186,5 +186,50 @@ fn texts_stand_for_their_parts(rt: HostRuntime) -> Result<(), Fail> {
         assert!(rt; source.len() < 1000);
         assert_eq!(rt; told(rt.alloc(), source)?.as_slice(), parts);
     }
+    Ok(())
+}
+
+/// Texts with the number of nets of their designs; 0 where they describe none.
+static DESIGNS: [(&[u8], u32); 8] = [
+    (b"module t(a,y);input a;output y;not(y,a);endmodule", 4),
+    (
+        b"module t(a,y);input a;output y;buf(y,w),(w,a);endmodule",
+        5,
+    ),
+    (b"module t(y);output y;buf(y,w);not(w,y);endmodule", 4),
+    (
+        b"module t(a,y);input a;output y;wire w;not(y,a);endmodule",
+        5,
+    ),
+    (
+        b"module t(a,y);input a;output y;not(y,a);buf(y,a);endmodule",
+        0,
+    ),
+    (b"module t(a,y);input a;output y;not(a,y);endmodule", 0),
+    (b"module t(a,y);input a;output y;not(y,w);endmodule", 0),
+    (b"module t(a,y);input a;output y;endmodule", 0),
+];
+
+/// The number of nets of the design of a text; 0 where the text describes none.
+fn nets(alloc: Global, source: &[u8]) -> Result<u32, Fail>
+    requires { length source.now < 2 ^ 32 }
+{
+    let tokens = tokens(alloc, source)?;
+    let tree = parse(alloc, &tokens)?;
+    match read_gates(alloc, source, &tokens, &tree, b"t") {
+        Ok(design) => Ok(design.nets()),
+        Err(ElabFault::NotYet) => Ok(0),
+        Err(fault) => Err(Fail::from(fault)),
+    }
+}
+
+#[test]
+fn designs_have_their_nets(rt: HostRuntime) -> Result<(), Fail> {
+    for (source, count) in DESIGNS {
+        assert!(rt; source.len() < 1000);
+        assert_eq!(rt; nets(rt.alloc(), source)?, count);
+    }
+    trees_tell_designs_apart();
+    gate_designs_are_plain();
     Ok(())
 }
