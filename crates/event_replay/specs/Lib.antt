@@ -1,0 +1,7 @@
+pub mod Events
+pub mod Faults
+pub mod Lines
+pub mod Openings
+pub mod Settings
+pub mod Traces
+pub mod Values

@@ -1,0 +1,12 @@
+//! The texts of openings and events, and the lines of traces.
+//!
+//! `read_opening` and `read_events` answer Ok exactly where `specs/Openings.antt` and
+//! `specs/Events.antt` say that a text tells an opening or events, and then give what it tells.
+//! `trace_line` gives the line that `specs/Traces.antt` says.
+#![tactic(auto)]
+
+mod fault;
+mod trace;
+
+pub use fault::TextFault;
+pub use trace::trace_line;
