@@ -49,16 +49,15 @@ pub digit_of : (after : ℕ) (bs rest : List Bool) (a b c d : ℕ)
 digit_of after bs rest a b c d er ea eb ec ed =
     rw (ea, eb, ec, ed) (low_digit rest ∙ ap (λ n. n % 16) (ap number er ∙ digits_less after bs))
 
--- a text with one digit more at its front
-pub hex_step : (count after n digit : ℕ) (before next old : List ℕ) (whole : List ℕ)
+-- a text that goes on with the digits of a number, with the next of them put to it
+pub hex_step : (count after n digit byte : ℕ) (before next whole : List ℕ)
     → count ≡ after + 1
     → digit ≡ n / 16 ^ after % 16
-    → next ≡ before ++ digit_char digit ∷ []
+    → byte ≡ digit_char digit
+    → next ≡ before ++ byte ∷ []
     → before ++ hex_text count n ≡ whole
     → next ++ hex_text after n ≡ whole
-hex_step count after n digit before next old whole more is added so_far =
-    let front : hex_text count n ≡ digit_char digit ∷ hex_text after n = rw (more ∙ plus_one, is) refl in
-    rw added (append_assoc before (digit_char digit ∷ []) (hex_text after n) ∙ ap (λ t. before ++ t) (sym front) ∙ so_far)
-  where
-    plus_one : after + 1 ≡ suc after
-    plus_one = omega arith
+hex_step count after n digit byte before next whole more is shown added so_far =
+    let plus_one : count ≡ suc after = omega arith in
+    let front : hex_text count n ≡ byte ∷ hex_text after n = rw (plus_one, shown, is) refl in
+    rw added (append_assoc before (byte ∷ []) (hex_text after n) ∙ ap (λ t. before ++ t) (sym front) ∙ so_far)
