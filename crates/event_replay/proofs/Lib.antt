@@ -1,1 +1,2 @@
-pub mod HexDigits
+mod HexDigits
+mod ReadDigits

@@ -6,7 +6,9 @@
 #![tactic(auto)]
 
 mod fault;
+mod lines;
 mod trace;
+mod values;
 
 pub use fault::TextFault;
 pub use trace::trace_line;
