@@ -1,6 +1,6 @@
 //! The lines of a text, and the words of a line.
 
-ghost use Rattle.std.specs.Prelude.{◌≡◌, ◌<◌, ◌==◌, ◌∷◌, ◌++◌, ◌↔◌, [], false, length, option_copied, IsTrue, MatchOption};
+ghost use Rattle.std.specs.Prelude.{◌≡◌, ◌<◌, ◌==◌, ◌∷◌, ◌++◌, ◌↔◌, [], false, get_or, length, option_copied, IsTrue, MatchOption};
 ghost use Rattle.std.specs.List.{list_all, list_any};
 ghost use Rattle.event_replay.specs.Lines.{is_blank, is_newline, is_passed_over, is_plain, is_return, lines, without_returns, words};
 
@@ -34,7 +34,14 @@ fn strip_returns(line: &[u8]) -> &[u8]
 pub(crate) fn is_passed_over(line: &[u8]) -> bool
     ensures { result ≡ is_passed_over line.now }
 {
-    line.iter().all(|byte| is_blank(*byte)) || matches!(line, [b'#', ..])
+    is_blank_line(line) || matches!(line, [b'#', ..])
+}
+
+/// Whether a line has no byte but spaces and tabs.
+fn is_blank_line(line: &[u8]) -> bool
+    ensures { result ≡ list_all is_blank line.now }
+{
+    line.iter().all(|byte| matches!(byte, b' ' | b'\t'))
 }
 
 /// Whether a line has no byte but tabs and those from the space to the tilde.
@@ -53,18 +60,25 @@ pub(crate) fn cut_word(line: &[u8]) -> Option<(&[u8], &[u8])>
         (length line.now ≡ length line.now)
         (λ cut. length cut.1.now < length line.now) }
 {
-    let mut rest = line;
-    'blanks: while let [first, after @ ..] = rest
-        && is_blank(*first)
+    match line
+        .iter()
+        .position(|byte| !matches!(byte, b' ' | b'\t'))
     {
-        rest = after;
+        Some(start) => Some(take_word(&line[start..])),
+        None => None,
     }
-    if rest.is_empty() {
-        return None;
-    }
-    match rest.iter().position(|byte| is_blank(*byte)) {
-        Some(end) => Some((&rest[..end], &rest[end..])),
-        None => Some((rest, &[])),
+}
+
+/// The word at the front of a line, and what stands after it.
+fn take_word(line: &[u8]) -> (&[u8], &[u8])
+    requires some { 0 < length line.now }
+    requires first { is_blank (get_or line.now 0 0) ≡ false }
+    ensures words { words line.now ≡ result.0.now ∷ words result.1.now }
+    ensures less { length result.1.now < length line.now }
+{
+    match line.iter().position(|byte| matches!(byte, b' ' | b'\t')) {
+        Some(end) => (&line[..end], &line[end..]),
+        None => (line, &[]),
     }
 }
 
@@ -75,13 +89,8 @@ pub(crate) fn part_word(word: &[u8]) -> Option<(&[u8], &[u8])>
         (λ parts. (word.now ≡ parts.0.now ++ 61 ∷ parts.1.now)
             × (list_any (λ byte. byte == 61) parts.1.now ≡ false)) }
 {
-    let place = word.iter().rposition(|byte| *byte == b'=')?;
-    Some((&word[..place], &word[place + 1..]))
-}
-
-/// Whether a byte is a space or a tab.
-fn is_blank(byte: u8) -> bool
-    ensures { result ≡ is_blank byte }
-{
-    byte == b' ' || byte == b'\t'
+    match word.iter().rposition(|byte| *byte == b'=') {
+        Some(place) => Some((&word[..place], &word[place + 1..])),
+        None => None,
+    }
 }
