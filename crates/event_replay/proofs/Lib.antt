@@ -1,3 +1,4 @@
+mod FirstPorts
 mod HexDigits
 mod Pieces
 mod ReadDigits

@@ -1,5 +1,6 @@
 pub mod Events
 pub mod Faults
+pub mod Index
 pub mod Lines
 pub mod Openings
 pub mod Settings

@@ -1,6 +1,7 @@
 -- Values given to input ports, and the input bits that they give.
 -- The rule is told in docs/FORMATS.md, "Openings and events".
-use Rattle.std.specs.Prelude.{◌≡◌, ◌==◌, ◌≤◌, ℕ, Option, Some, List, map, length, position, option_map, slice_get, count_by, flat_map, Contains}
+use Rattle.std.specs.Prelude.{◌≡◌, ◌==◌, ◌≤◌, ℕ, Option, Some, List, map, length, option_map, slice_get, count_by, flat_map, Contains}
+use Rattle.std.specs.List.{position_from}
 use Rattle.std.specs.Str.{bytes_eq}
 use Rattle.id_arena.specs.declared.keys.NetId.{NetId}
 use Rattle.design_core.specs.declared.element.Driver.TheVariants.{Input}
@@ -12,7 +13,7 @@ use Rattle.event_replay.specs.Values.{IsValue, hex_number, shown_bits}
 
 -- the place of the first port of this name
 abbrev pub port_named : List Port → List ℕ → Option ℕ
-port_named ports name = position (λ port. bytes_eq name port.name) ports
+port_named ports name = position_from (λ port. bytes_eq name port.name) 0 ports
 
 -- an input port, by its place, with its nets and a number for them
 pub record Setting : Type 0 where

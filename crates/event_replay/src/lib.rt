@@ -7,6 +7,7 @@
 
 mod fault;
 mod lines;
+mod port_names;
 mod trace;
 mod values;
 
