@@ -1,4 +1,5 @@
 mod FirstPorts
 mod HexDigits
+mod InputBits
 mod Pieces
 mod ReadDigits

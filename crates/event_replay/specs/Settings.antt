@@ -1,7 +1,7 @@
 -- Values given to input ports, and the input bits that they give.
 -- The rule is told in docs/FORMATS.md, "Openings and events".
 use Rattle.std.specs.Prelude.{◌≡◌, ◌==◌, ◌≤◌, ℕ, Option, Some, List, map, length, option_map, slice_get, count_by, flat_map, Contains}
-use Rattle.std.specs.List.{position_from}
+use Rattle.std.specs.List.{position_from, AllByRecursion}
 use Rattle.std.specs.Str.{bytes_eq}
 use Rattle.id_arena.specs.declared.keys.NetId.{NetId}
 use Rattle.design_core.specs.declared.element.Driver.TheVariants.{Input}
@@ -35,6 +35,17 @@ EachOnce settings = (port : ℕ) → count_by (λ s. s.port == port) settings �
 -- the bits that settings give, one by one and from bit 0
 abbrev pub bits_set : List Setting → List PortBit
 bits_set settings = flat_map (λ s. shown_bits s.nets s.number) settings
+
+-- the setting of one of the ports
+abbrev pub IsOfPort : List Port → Setting → Type 0
+IsOfPort ports s = option_map (λ port. port.nets) (slice_get ports s.port) ≡ Some s.nets
+
+-- values that settings of ports give, each port being set at most once
+pub record AreSet (ports : List Port) (values : List PortBit) : Type 0 where
+  pub settings : List Setting
+  pub of_ports : AllByRecursion (IsOfPort ports) settings
+  pub once : EachOnce settings
+  pub bits : values ≡ bits_set settings
 
 -- values of input bits of a design, each bit at most once
 pub record AreInputBits (p : Parts) (values : List PortBit) : Type 0 where

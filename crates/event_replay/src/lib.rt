@@ -7,6 +7,7 @@
 
 mod fault;
 mod lines;
+mod opening;
 mod port_names;
 mod trace;
 mod values;
