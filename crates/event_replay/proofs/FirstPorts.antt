@@ -15,10 +15,10 @@ use Rattle.event_replay.specs.Settings.{port_named, Setting, Sets}
 use Rattle.event_replay.specs.Values.{IsValue, hex_number}
 
 -- what a test of the first element decides
-first_yes : {X : Type 0} (test : X → Bool) (from : ℕ) (y : X) (ys : List X) → test y ≡ true → position_from test from (y ∷ ys) ≡ Some from
+pub first_yes : {X : Type 0} (test : X → Bool) (from : ℕ) (y : X) (ys : List X) → test y ≡ true → position_from test from (y ∷ ys) ≡ Some from
 first_yes test from y ys e = cond-true (test y) (Some from) (position_from test (from + 1) ys) e
 
-first_no : {X : Type 0} (test : X → Bool) (from : ℕ) (y : X) (ys : List X) → test y ≡ false → position_from test from (y ∷ ys) ≡ position_from test (from + 1) ys
+pub first_no : {X : Type 0} (test : X → Bool) (from : ℕ) (y : X) (ys : List X) → test y ≡ false → position_from test from (y ∷ ys) ≡ position_from test (from + 1) ys
 first_no test from y ys e = cond-false (test y) (Some from) (position_from test (from + 1) ys) e
 
 -- a first place stays where an element is put last
@@ -43,7 +43,7 @@ comes test x from (y ∷ ys) none =
         ∙ ap (λ n. if test x then Some n else None) places)
     ]
 
-position_within : {X : Type 0} (test : X → Bool) (from place : ℕ) (xs : List X) → position_from test from xs ≡ Some place → (from ≤ place) × (place < from + length xs)
+pub position_within : {X : Type 0} (test : X → Bool) (from place : ℕ) (xs : List X) → position_from test from xs ≡ Some place → (from ≤ place) × (place < from + length xs)
 position_within test from place [] found = absurd (cc)
 position_within test from place (y ∷ ys) found =
     elim (cases_Bool (test y)) [

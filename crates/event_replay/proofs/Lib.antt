@@ -1,5 +1,9 @@
+mod Answering
 mod FirstPorts
 mod HexDigits
 mod InputBits
+mod OneOpening
 mod Pieces
 mod ReadDigits
+mod Taken
+mod Zips

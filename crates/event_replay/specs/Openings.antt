@@ -18,12 +18,20 @@ listed (member name tree rest) = (name, tree) ∷ listed rest
 abbrev pub MemberSets : List Port → List ℕ × Data → Setting → Type 0
 MemberSets ports given s = (digits : List ℕ) × (given.1 ≡ string digits) × Sets ports given.0 digits s
 
--- The settings that `inputs` gives, where it is there: it is an object, and each of its members sets
--- a port.
-abbrev pub GivesInputs : List Port → Option Data → List Setting → Type 0
-GivesInputs ports None settings = settings ≡ []
-GivesInputs ports (Some tree) settings =
-    (given : Members) × (tree ≡ object given) × AllZip (MemberSets ports) (listed given) settings
+-- the members of an object give these values: each of them sets a port
+pub record MembersGive (ports : List Port) (given : Members) (values : List PortBit) : Type 0 where
+  pub settings : List Setting
+  pub set : AllZip (MemberSets ports) (listed given) settings
+  pub bits : values ≡ bits_set settings
+
+-- an object gives the values that its members give
+abbrev pub ObjectGives : List Port → Data → List PortBit → Type 0
+ObjectGives ports tree values = (given : Members) × (tree ≡ object given) × MembersGive ports given values
+
+-- the values that `inputs` gives: none where it is not there
+abbrev pub InputsGive : List Port → Option Data → List PortBit → Type 0
+InputsGive ports None values = values ≡ []
+InputsGive ports (Some tree) values = ObjectGives ports tree values
 
 -- the tree is an object without `ones` and `words`, and its `inputs` give these values
 pub record IsOpening (ports : List Port) (tree : Data) (values : List PortBit) : Type 0 where
@@ -31,9 +39,7 @@ pub record IsOpening (ports : List Port) (tree : Data) (values : List PortBit) :
   pub is_object : tree ≡ object members
   pub no_ones : get_member (codes "ones") members ≡ None
   pub no_words : get_member (codes "words") members ≡ None
-  pub settings : List Setting
-  pub inputs : GivesInputs ports (get_member (codes "inputs") members) settings
-  pub bits : values ≡ bits_set settings
+  pub inputs : InputsGive ports (get_member (codes "inputs") members) values
 
 -- the text is JSON for such a tree
 pub record SaysOpening (ports : List Port) (text : List ℕ) (values : List PortBit) : Type 0 where

@@ -13,6 +13,7 @@ use std::marker::Model;
 
 /// Ports, each of which is found by its name without a walk over all. Of ports with one name the first
 /// is found. A clause sees the ports.
+#[derive(Drop)]
 pub(crate) struct PortNames<'d> {
     ports: &'d [Port],
     names: Names,
