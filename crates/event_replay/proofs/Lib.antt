@@ -6,4 +6,5 @@ mod OneOpening
 mod Pieces
 mod ReadDigits
 mod Taken
+mod Told
 mod Zips

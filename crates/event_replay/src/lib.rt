@@ -5,6 +5,7 @@
 //! `trace_line` gives the line that `specs/Traces.antt` says.
 #![tactic(auto)]
 
+mod events;
 mod fault;
 mod lines;
 mod opening;
@@ -12,5 +13,7 @@ mod port_names;
 mod trace;
 mod values;
 
+pub use events::{events_are_told_apart, read_events};
 pub use fault::TextFault;
+pub use opening::{openings_are_told_apart, read_opening};
 pub use trace::trace_line;
