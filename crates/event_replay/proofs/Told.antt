@@ -1,15 +1,21 @@
 -- How the words of a line set ports one by one, and how the lines of a text tell events one by one.
-use Rattle.std.proofs.Common.{◌≡◌, ◌≢◌, ◌↔◌, ℕ, zero, suc, ◌+◌, ◌<◌, ◌≤◌, ◌==◌, Bool, true, false, not, cond, IsTrue, Option, Some, None, List, [], ◌∷◌, ◌++◌, map, filter, get_or, set, length, count_by, Contains, codes, inl, inr, refl, sym, ap, ◌∙◌, subst, arith, rules, append_assoc, append-nil, length-set, get_or-set_same, get_or-set_other}
+use Rattle.std.proofs.Common.{◌≡◌, ◌≢◌, ◌↔◌, ℕ, zero, suc, ◌+◌, ◌<◌, ◌≤◌, ◌==◌, Bool, true, false, not, cond, IsTrue, Option, Some, None, List, [], ◌∷◌, ◌++◌, map, filter, get_or, set, length, count_by, All, Contains, Result, Ok, Err, IfOk, MatchOption, codes, inl, inr, refl, sym, ap, ◌∙◌, subst, arith, rules, append_assoc, append-nil, length-set, get_or-set_same, get_or-set_other}
 use Rattle.std.specs.List.{AllZip, AllByRecursion, list_any, list_all}
 use Rattle.std.proofs.lemmas.Bool.{cases_eq, eq-eqb, ne_eqb, cond-true, cond-false, true≢false, or_cases, or_right, or_from, and_parts}
+use Rattle.std.proofs.lemmas.List.Elements.{All-nil, All-cons, All-contains}
 use Rattle.std.proofs.lemmas.List.Sums.{sum_by-cons, sum_by-append}
+use Rattle.design_core.specs.declared.parts.Parts.{Parts}
 use Rattle.design_core.specs.declared.parts.Port.{Port}
 use Rattle.design_core.specs.declared.values.Event.{Event}
 use Rattle.design_core.specs.declared.values.PortBit.{PortBit}
+use Rattle.design_core.specs.Design.{IsDesign}
+use Rattle.event_replay.specs.declared.fault.TextFault.{TextFault}
+use Rattle.event_replay.specs.Faults.{Answers}
 use Rattle.event_replay.specs.Events.{AreFresh, SaysEvents, TellsEvent, WordSets, WordsGive, TextsTellEventsApart}
-use Rattle.event_replay.specs.Lines.{words, event_lines, is_passed_over, lines}
-use Rattle.event_replay.specs.Settings.{Setting, Sets, IsOfPort, AreSet, EachOnce, bits_set}
+use Rattle.event_replay.specs.Lines.{words, event_lines, is_passed_over, is_plain, lines}
+use Rattle.event_replay.specs.Settings.{Setting, Sets, IsOfPort, AreSet, AreInputBits, EachOnce, bits_set}
 use Rattle.event_replay.specs.Values.{shown_bits, hex_number, is_hex}
+use Rattle.event_replay.proofs.InputBits.{input_bits}
 use Rattle.event_replay.proofs.OneOpening.{one_setting}
 use Rattle.event_replay.proofs.Taken.{bits_push}
 use Rattle.event_replay.proofs.Zips.{zip_push, zip_partner, zip_unique, zip_front}
@@ -165,3 +171,102 @@ words_give ports all rest marks line values u ended = record {
   once = u.once;
   bits = u.bits;
 }
+
+-- a line whose words are these tells the event of the values that they give
+module _ (ports : List Port) (line group : List ℕ) (rest : List (List ℕ)) (are_words : words line ≡ group ∷ rest) where
+  pub event_tells : (event : Event) → IsTrue (list_all is_plain line) → group ≡ codes "*" → event.group.place ≡ 0 → WordsGive ports rest event.values → TellsEvent ports line event
+  event_tells event plain star place gives = record { plain = plain; further = rest; are_words = are_words ∙ ap (λ g. g ∷ rest) star; group = place; gives = gives }
+
+  same_words : (event : Event) (t : TellsEvent ports line event) → group ∷ rest ≡ codes "*" ∷ t.further
+  same_words event t = sym are_words ∙ t.are_words
+
+  pub star_told : (event : Event) → TellsEvent ports line event → group ≡ codes "*"
+  star_told event t = let same = same_words event t in cc
+
+  pub words_told : (event : Event) → TellsEvent ports line event → WordsGive ports rest event.values
+  words_told event t =
+      let same = same_words event t in
+      let rests : rest ≡ t.further = cc in
+      subst (λ ws. WordsGive ports ws event.values) (sym rests) t.gives
+
+pub no_words_told : (ports : List Port) (line : List ℕ) → words line ≡ [] → (event : Event) → TellsEvent ports line event → ⊥
+no_words_told ports line none event t = let same : [] ≡ codes "*" ∷ t.further = sym none ∙ t.are_words in absurd (cc)
+
+-- what is left of a text, if there is more
+abbrev pub lines_left : Option (List ℕ) → List (List ℕ)
+lines_left None = []
+lines_left (Some text) = event_lines text
+
+abbrev pub bytes_left : Option (List ℕ) → ℕ
+bytes_left None = 0
+bytes_left (Some text) = 1 + length text
+
+-- a line is taken off a text
+abbrev pub IsCut : List ℕ → List ℕ → Option (List ℕ) → Type 0
+IsCut text line after = MatchOption after (lines text ≡ line ∷ []) (λ rest. lines text ≡ line ∷ lines rest)
+
+pub line_passed : (text line : List ℕ) (after : Option (List ℕ)) → IsCut text line after → is_passed_over line ≡ true → event_lines text ≡ lines_left after
+line_passed text line None cut passed = ap (filter (λ line. not (is_passed_over line))) cut ∙ cond-false (not (is_passed_over line)) _ _ (ap not passed)
+line_passed text line (Some rest) cut passed = ap (filter (λ line. not (is_passed_over line))) cut ∙ cond-false (not (is_passed_over line)) _ _ (ap not passed)
+
+pub line_kept : (text line : List ℕ) (after : Option (List ℕ)) → IsCut text line after → is_passed_over line ≡ false → event_lines text ≡ line ∷ lines_left after
+line_kept text line None cut kept = ap (filter (λ line. not (is_passed_over line))) cut ∙ cond-true (not (is_passed_over line)) _ _ (ap not kept)
+line_kept text line (Some rest) cut kept = ap (filter (λ line. not (is_passed_over line))) cut ∙ cond-true (not (is_passed_over line)) _ _ (ap not kept)
+
+-- the lines so far tell events
+pub record Telling (ports : List Port) (all rest : List (List ℕ)) (events : List Event) : Type 0 where
+  pub done : List (List ℕ)
+  pub split : all ≡ done ++ rest
+  pub told : AllZip (TellsEvent ports) done events
+
+pub nothing_told : (ports : List Port) (all : List (List ℕ)) → Telling ports all all []
+nothing_told ports all = record { done = []; split = refl; told = tt }
+
+pub event_told : (ports : List Port) (all rest : List (List ℕ)) (line : List ℕ) (events : List Event) (event : Event) → Telling ports all (line ∷ rest) events → TellsEvent ports line event → Telling ports all rest (events ++ event ∷ [])
+event_told ports all rest line events event t here = record {
+  done = t.done ++ line ∷ [];
+  split = t.split ∙ sym (append_assoc t.done (line ∷ []) rest);
+  told = zip_push (TellsEvent ports) t.done events line event t.told here;
+}
+
+pub line_wrong : (ports : List Port) (all rest : List (List ℕ)) (line : List ℕ) (events : List Event) → Telling ports all (line ∷ rest) events → (others : List Event) → AllZip (TellsEvent ports) all others → (event : Event) × TellsEvent ports line event
+line_wrong ports all rest line events t others says =
+    zip_partner (TellsEvent ports) t.done line rest others (subst (λ ls. AllZip (TellsEvent ports) ls others) t.split says)
+
+pub all_told : (ports : List Port) (all rest : List (List ℕ)) (events : List Event) → Telling ports all rest events → rest ≡ [] → AllZip (TellsEvent ports) all events
+all_told ports all rest events t ended = subst (λ ls. AllZip (TellsEvent ports) ls events) (sym (t.split ∙ ap (λ r. t.done ++ r) ended ∙ append-nil t.done)) t.told
+
+pub fresher : (ports : List Port) (marks : List ℕ) (line later : ℕ) → line ≤ later → AreFresh ports marks line → AreFresh ports marks later
+fresher ports marks line later after fresh = record { size = fresh.size; earlier = λ port. omega (arith, fresh.earlier port) }
+
+-- the values of each event set ports
+pub events_set : (ports : List Port) (given : List (List ℕ)) (events : List Event) → AllZip (TellsEvent ports) given events → All (λ event. AreSet ports event.values) events
+events_set ports [] [] told = All-nil (λ (event : Event). AreSet ports event.values)
+events_set ports [] (e ∷ es) told = absurd told
+events_set ports (l ∷ ls) [] told = absurd told
+events_set ports (l ∷ ls) (e ∷ es) told =
+    All-cons (λ (event : Event). AreSet ports event.values) e es (words_set ports told.0.further e.values told.0.gives) (events_set ports ls es told.1)
+
+-- a text tells at most one list of events
+one_event : (ports : List Port) (line : List ℕ) (one other : Event) → TellsEvent ports line one → TellsEvent ports line other → one ≡ other
+one_event ports line one other a b =
+    let furthers : codes "*" ∷ a.further ≡ codes "*" ∷ b.further = sym a.are_words ∙ b.are_words in
+    let further : a.further ≡ b.further = cc in
+    let settings = zip_unique (WordSets ports) (one_word ports) b.further a.gives.settings b.gives.settings (subst (λ ws. AllZip (WordSets ports) ws a.gives.settings) further a.gives.set) b.gives.set in
+    let values : one.values ≡ other.values = a.gives.bits ∙ ap bits_set settings ∙ sym b.gives.bits in
+    let place : one.group.place ≡ other.group.place = a.group ∙ sym b.group in
+    λ i. record { group = record { place = place i }; values = values i }
+
+pub events_apart : TextsTellEventsApart
+events_apart ports text one other a b = zip_unique (TellsEvent ports) (one_event ports) (event_lines text) one other a b
+
+pub less_left : (text : List ℕ) (after : Option (List ℕ)) → MatchOption after (length text ≡ length text) (λ rest. length rest < length text) → bytes_left after ≤ length text
+less_left text None less = omega arith
+less_left text (Some rest) less = omega arith
+
+-- the events that a text tells give values of input bits
+pub bits_told : (p : Parts) (inner : List Port) (text : List ℕ) (r : Result (List Event) TextFault) → IsDesign p → inner ≡ p.inputs → Answers (SaysEvents inner text) r → IfOk r (λ events. (event : Event) → Contains events event → AreInputBits p event.values)
+bits_told p inner text (Ok events) design same says = λ event here.
+    let set = All-contains (λ (event : Event). AreSet inner event.values) events event (events_set inner (event_lines text) events says) here in
+    input_bits p event.values design (subst (λ ps. AreSet ps event.values) same set)
+bits_told p inner text (Err fault) design same says = tt

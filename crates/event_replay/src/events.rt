@@ -6,7 +6,7 @@ ghost use Rattle.design_core.specs.declared.values.Event.{Event};
 ghost use Rattle.event_replay.specs.Events.{AreFresh, SaysEvents, TellsEvent, TextsTellEventsApart, WordSets, WordsGive};
 ghost use Rattle.event_replay.specs.Faults.{Answers};
 ghost use Rattle.event_replay.specs.Lines.{words};
-ghost use Rattle.event_replay.specs.Settings.{AreInputBits, AreSet, Setting};
+ghost use Rattle.event_replay.specs.Settings.{AreInputBits, Setting};
 ghost use Rattle.event_replay.specs.Values.{hex_number, is_hex};
 
 use crate::fault::TextFault;
@@ -58,20 +58,22 @@ fn read_lines(
     marks: &mut [usize],
 ) -> Result<List<Event>, TextFault>
     requires { AreFresh ports.now marks.old 1 }
-    ensures means { Answers (SaysEvents ports.now bytes.now) result }
-    ensures set { IfOk result (λ events. (event : Event) → Contains events event → AreSet ports.now event.values) }
+    ensures { Answers (SaysEvents ports.now bytes.now) result }
 {
     let mut events = List::new(alloc);
     let mut rest = Some(bytes);
     let mut number = 0;
     'lines: while let Some(text) = rest {
         let (line, after) = cut_line(text);
-        number += 1;
-        if !is_passed_over(line) {
-            let event = read_event(alloc, line, ports, marks, number)?;
-            events.push(event)?;
-        }
         rest = after;
+        number += 1;
+        if is_passed_over(line) {
+            continue;
+        }
+        match read_event(alloc, line, ports, marks, number) {
+            Ok(event) => events.push(event)?,
+            Err(fault) => return Err(fault),
+        }
     }
     Ok(events)
 }
@@ -86,7 +88,6 @@ fn read_event(
 ) -> Result<Event, TextFault>
     requires { AreFresh ports.now marks.old number }
     ensures means { Answers (TellsEvent ports.now line.now) result }
-    ensures set { IfOk result (λ event. AreSet ports.now event.values) }
     ensures marks { OnOk result (AreFresh ports.now marks.new (number + 1)) }
 {
     if !is_plain(line) {
@@ -98,11 +99,13 @@ fn read_event(
     if group != b"*".as_slice() {
         return Err(TextFault::NotYet);
     }
-    let values = read_settings(alloc, rest, ports, marks, number)?;
-    Ok(Event {
-        group: GroupId::of(0),
-        values,
-    })
+    match read_settings(alloc, rest, ports, marks, number) {
+        Ok(values) => Ok(Event {
+            group: GroupId::of(0),
+            values,
+        }),
+        Err(fault) => Err(fault),
+    }
 }
 
 /// The values that words give in the line of this number.
@@ -115,7 +118,6 @@ fn read_settings(
 ) -> Result<PortValues, TextFault>
     requires { AreFresh ports.now marks.old number }
     ensures means { Answers (WordsGive ports.now (words text.now)) result }
-    ensures set { IfOk result (λ values. AreSet ports.now values) }
     ensures marks { OnOk result (AreFresh ports.now marks.new (number + 1)) }
 {
     let mut values = List::new(alloc);

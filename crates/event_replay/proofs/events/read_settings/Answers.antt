@@ -3,7 +3,7 @@ use Rattle.std.proofs.lemmas.Bool.{eqb-true, eqb-false}
 use Rattle.event_replay.specs.Lines.{words}
 use Rattle.event_replay.specs.Settings.{Setting}
 use Rattle.event_replay.specs.Values.{hex_number}
-use Rattle.event_replay.proofs.Told.{Setting-up, nothing_set, word_wrong, word_again, word_taken, words_set, words_give}
+use Rattle.event_replay.proofs.Told.{Setting-up, nothing_set, word_wrong, word_again, word_taken}
 use Rattle.event_replay.proofs.events.read_settings.Goals as goal
 
 pub words-init : goal.words-init
@@ -26,7 +26,3 @@ words-preserved c =
     let s : Setting = record { port = c.in-Some-read_setting.place; nets = c.in-Some-read_setting.nets.now; number = hex_number c.in-Some-read_setting.digits.now } in
     word_taken c.args.ports.now (words c.args.text.now) (words c.in-Some.after.now) c.in-Some.word.now c.words.marks c.args.number c.words.values u s _ c.push_bits.new.values c.in-Some-read_setting.ensures.means
     (search rules) (search rules) refl c.in_ok-push_bits.ensures
-
-pub returns-clause-set : goal.returns-clause-set
-returns-clause-set c =
-    words_set c.args.ports.now (words c.args.text.now) c.words.values (words_give c.args.ports.now (words c.args.text.now) (words c.words.rest.now) c.words.marks c.args.number c.words.values c.words.invariant c.in_default.ensures.words)
