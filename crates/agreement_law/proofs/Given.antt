@@ -1,15 +1,13 @@
 -- What the first of some actions to give anything gives, and what is given on a register.
-use Rattle.std.proofs.Common.{◌≡◌, ℕ, zero, suc, Bool, true, false, List, [], ◌∷◌, refl, subst, sym, ap, ◌∙◌, if◌then◌else◌}
-use Rattle.std.specs.Prelude.{◌==◌, ◌<◌, Option, Some, None, slice_get, unwrap_or, option_and_then}
-use Rattle.std.specs.Option.{option_or, option_map_or}
-use Rattle.std.proofs.lemmas.Option.{none-some}
+use Rattle.std.proofs.Common.{◌≡◌, ℕ, suc, Bool, true, false, List, [], ◌∷◌, refl, ap, ◌∙◌, if◌then◌else◌}
+use Rattle.std.specs.Prelude.{◌==◌, Option, Some, None, slice_get, option_and_then}
+use Rattle.std.specs.Option.{option_or}
 use Rattle.emu_machine.specs.declared.map.Subject.{Subject}
 use Rattle.emu_machine.specs.declared.netlist.Chip.{Chip}
 use Rattle.emu_machine.specs.declared.netlist.EmuRegister.{EmuRegister}
 use Rattle.emu_machine.specs.declared.schedule.Action.{Action}
 use Rattle.emu_machine.specs.Netlist.{chip_at, is_chip_net}
 use Rattle.emu_machine.specs.State.{first_given, on_register}
-use Rattle.emu_machine.specs.Origins.{same_subject}
 use Rattle.emu_machine.specs.Acceptance.{same_subjects}
 use Rattle.marks_law.proofs.Plain.{no, same_number}
 use Rattle.marks_law.proofs.Inputs.{same_subject_is}
@@ -19,26 +17,6 @@ pub none_given : {A : Type 0} (gives : Action → Option A) (actions : List Acti
 none_given gives [] h = refl
 none_given gives (a ∷ actions) h =
     ap (λ o. option_or o (first_given gives actions)) (h 0 a refl) ∙ none_given gives actions (λ j. h (suc j))
-
--- two things are given side by side, and then they are related, or neither is given
-pub data Beside {A : Type 0} {B : Type 0} (R : A → B → Type 0) : Option A → Option B → Type 0 where
-  neither : Beside R None None
-  both : (a : A) (b : B) → R a b → Beside R (Some a) (Some b)
-
-module _ {A : Type 0} {B : Type 0} (R : A → B → Type 0) where
-  or_beside : (o p : Option A) (q r : Option B) → Beside R o q → Beside R p r → Beside R (option_or o p) (option_or q r)
-  or_beside _ p _ r neither rest = rest
-  or_beside _ p _ r (both a b h) rest = both a b h
-
-  -- what each action gives side by side, the first to give anything gives side by side
-  pub first_beside : (f : Action → Option A) (g : Action → Option B) (actions : List Action) → ((j : ℕ) (a : Action) → slice_get actions j ≡ Some a → Beside R (f a) (g a)) → Beside R (first_given f actions) (first_given g actions)
-  first_beside f g [] h = neither
-  first_beside f g (a ∷ actions) h =
-      or_beside (f a) (first_given f actions) (g a) (first_given g actions) (h 0 a refl) (first_beside f g actions (λ j. h (suc j)))
-
-  pub taken_beside : (o : Option A) (q : Option B) (a : A) (b : B) → Beside R o q → R a b → R (unwrap_or o a) (unwrap_or q b)
-  taken_beside _ _ a b neither h = h
-  taken_beside _ _ a b (both x y k) h = k
 
 -- to show a fact of what two rules give on a register, show it where nothing is given and where the net is its Q
 module _ {A B : Type 0} (chips : List Chip) (at k c n : ℕ) (f : EmuRegister → Option A) (g : EmuRegister → Option B) (P : Option A → Option B → Type 0)

@@ -1,8 +1,7 @@
 -- The groups that have a frame, of which each names inputs of the design alone.
-use Rattle.std.proofs.Common.{◌≡◌, ℕ, Bool, true, false, List, [], ◌∷◌, refl, subst, sym, ap, ◌∙◌, inl, inr}
-use Rattle.std.specs.Prelude.{◌⊎◌, Option, Some, None, slice_get, Contains, codes}
+use Rattle.std.proofs.Common.{◌≡◌, ℕ, true, false, refl, subst, inl, inr}
+use Rattle.std.specs.Prelude.{Option, Some, None, slice_get, codes}
 use Rattle.std.specs.Option.{option_map_or}
-use Rattle.id_arena.specs.declared.keys.NetId.{NetId}
 use Rattle.design_core.specs.declared.parts.Parts.{Parts}
 use Rattle.design_core.specs.declared.element.Driver.TheVariants as driven
 use Rattle.design_core.specs.Design.{driver, port_bits, includes, is_net}
@@ -19,9 +18,9 @@ all_inputs p = record { name = codes "*"; nets = port_bits p.inputs }
 
 pub groups_are : (c : Case) (k : ℕ) (g : Group) → IsCase c → slice_get (all_groups c.design c.groups) k ≡ Some g → IsGroup c.design g
 groups_are c k g is at =
-    elim (at_last c.groups (all_inputs c.design) k g at)
-    [ inl h ↦ is.groups k g h
-    | inr h ↦ subst (λ (g : Group). IsGroup c.design g) h (λ n m. m)
+    elim (at_last c.groups (all_inputs c.design) k g at) [
+      | inl h ↦ is.groups k g h
+      | inr h ↦ subst (λ (g : Group). IsGroup c.design g) h (λ n m. m)
     ]
 
 named_input : (c : Case) (n : ℕ) → IsCase c → (g : Group) → IsGroup c.design g → includes g.nets n ≡ true → driver c.design n ≡ driven.Input

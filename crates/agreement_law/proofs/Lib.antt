@@ -1,4 +1,11 @@
 pub mod Places
 pub mod Given
 pub mod Groups
-pub mod TakenIn
+pub mod Chips
+pub mod Accepted
+pub mod EventTruth
+pub mod FrameStart
+pub mod FrameEnd
+pub mod Shown
+pub mod OneUse
+pub mod Runs

@@ -1,9 +1,11 @@
 -- An element at a place of a list, and tests on all or some of a list.
-use Rattle.std.proofs.Common.{◌≡◌, ℕ, zero, suc, ◌<◌, arith, Bool, true, false, List, [], ◌∷◌, ◌++◌, length, get_or, refl, subst, sym, ap, ◌∙◌, inl, inr}
-use Rattle.std.specs.Prelude.{◌||◌, ◌&&◌, ◌⊎◌, Option, Some, None, slice_get, Contains}
+use Rattle.std.proofs.Common.{◌≡◌, ℕ, zero, suc, ◌+◌, ◌<◌, arith, Bool, true, false, cond, List, [], ◌∷◌, ◌++◌, length, get_or, map, refl, subst, sym, ap, ◌∙◌, inl, inr}
+use Rattle.std.specs.Prelude.{◌||◌, ◌⊎◌, Option, Some, None, slice_get, Contains, count_by, find, zip}
 use Rattle.std.specs.List.{list_any, list_all}
 use Rattle.std.proofs.lemmas.Option.{none-some, same_Some, slice_get_within, get_or_from_slice_get, slice_get-get_or}
-use Rattle.marks_law.proofs.Plain.{no, left, right, either}
+use Rattle.std.proofs.lemmas.List.Sums.{sum_by-cons}
+use Rattle.marks_law.proofs.Plain.{no, left, right, found}
+use Rattle.history_law.proofs.Lists.{counted}
 
 pub contains_at : {X : Type 0} (xs : List X) (k : ℕ) (x : X) → slice_get xs k ≡ Some x → Contains xs x
 contains_at xs k x at = (k, slice_get_within xs k x at, get_or_from_slice_get xs k x x at)
@@ -32,3 +34,65 @@ at_last [] last zero x at = inr (same_Some last x at)
 at_last [] last (suc k) x at = absurd (none-some x at)
 at_last (y ∷ ys) last zero x at = inl at
 at_last (y ∷ ys) last (suc k) x at = at_last ys last k x at
+
+counted_after : {X : Type 0} (p : X → Bool) (y : X) (ys : List X) → (b : Bool) → p y ≡ b → (0 < count_by p ys → (k : ℕ) × (x : X) × (slice_get ys k ≡ Some x) × (p x ≡ true))
+    → 0 < cond {A = ℕ} b 1 0 + count_by p ys → (k : ℕ) × (x : X) × (slice_get (y ∷ ys) k ≡ Some x) × (p x ≡ true)
+counted_after p y ys true e rest h = (0, y, refl, e)
+counted_after p y ys false e rest h =
+    let more : 0 < count_by p ys = omega arith in
+    let r = rest more in
+    (suc r.0, r.1, r.2, r.3)
+
+-- where some of a list are counted, an element at a place passes
+pub counted_found : {X : Type 0} (p : X → Bool) (xs : List X) → 0 < count_by p xs → (k : ℕ) × (x : X) × (slice_get xs k ≡ Some x) × (p x ≡ true)
+counted_found p [] h = absurd (omega arith)
+counted_found p (y ∷ ys) h =
+    counted_after p y ys (p y) refl (counted_found p ys) (subst (λ (n : ℕ). 0 < n) (sum_by-cons (λ y. cond {A = ℕ} (p y) 1 0) y ys) h)
+
+-- where none of a list are counted, nothing is found
+pub not_found : {X : Type 0} (p : X → Bool) (xs : List X) → count_by p xs ≡ 0 → find p xs ≡ None
+not_found {X} p xs none = go (find p xs) refl
+  where
+    go : (o : Option X) → find p xs ≡ o → find p xs ≡ None
+    go None e = e
+    go (Some x) e =
+        let f = found p xs x e in
+        let some : 0 < count_by p xs = counted p xs f.0 x f.1 f.2 in
+        absurd (omega arith)
+
+pub zip_at : {X : Type 0} {Y : Type 0} (xs : List X) (ys : List Y) (k : ℕ) (x : X) (y : Y) → slice_get xs k ≡ Some x → slice_get ys k ≡ Some y → slice_get (zip xs ys) k ≡ Some (x, y)
+zip_at [] ys k x y at there = absurd (none-some x at)
+zip_at (a ∷ xs) [] k x y at there = absurd (none-some y there)
+zip_at {X} {Y} (a ∷ xs) (b ∷ ys) zero x y at there =
+    ap (λ (z : X). Some (z, b)) (same_Some a x at) ∙ ap (λ (z : Y). Some (x, z)) (same_Some b y there)
+zip_at (a ∷ xs) (b ∷ ys) (suc k) x y at there = zip_at xs ys k x y at there
+
+pub at_zip : {X : Type 0} {Y : Type 0} (xs : List X) (ys : List Y) (k : ℕ) (e : X × Y) → slice_get (zip xs ys) k ≡ Some e → (slice_get xs k ≡ Some e.0) × (slice_get ys k ≡ Some e.1)
+at_zip [] ys k e at = absurd (none-some e at)
+at_zip (a ∷ xs) [] k e at = absurd (none-some e at)
+at_zip {X} {Y} (a ∷ xs) (b ∷ ys) zero e at =
+    let same : ◌≡◌ {A = X × Y} (a, b) e = same_Some (a, b) e at in
+    (ap (λ (q : X × Y). Some q.0) same, ap (λ (q : X × Y). Some q.1) same)
+at_zip (a ∷ xs) (b ∷ ys) (suc k) e at = at_zip xs ys k e at
+
+-- a list that is as long has an element at each place of the other
+pub at_same_place : {X : Type 0} {Y : Type 0} (xs : List X) (ys : List Y) (k : ℕ) (x : X) → length xs ≡ length ys → slice_get xs k ≡ Some x → (y : Y) × (slice_get ys k ≡ Some y)
+at_same_place xs [] k x long at =
+    let within : k < length xs = slice_get_within xs k x at in
+    let none : length xs ≡ 0 = long in
+    absurd (omega arith)
+at_same_place xs (y ∷ ys) k x long at =
+    let within : k < length xs = slice_get_within xs k x at in
+    let short : k < length (y ∷ ys) = subst (λ (n : ℕ). k < n) long within in
+    (get_or (y ∷ ys) k y, slice_get-get_or (y ∷ ys) k y short)
+
+pub at_map : {X : Type 0} {Y : Type 0} (f : X → Y) (xs : List X) (k : ℕ) (y : Y) → slice_get (map f xs) k ≡ Some y → (x : X) × (slice_get xs k ≡ Some x) × (y ≡ f x)
+at_map f [] k y at = absurd (none-some y at)
+at_map f (x ∷ xs) zero y at = (x, refl, sym (same_Some (f x) y at))
+at_map f (x ∷ xs) (suc k) y at = at_map f xs k y at
+
+-- where one of three counts is 1, one of them is not 0
+pub one_of : (a b c : ℕ) → a + b + c ≡ 1 → (0 < a) ⊎ (0 < b) ⊎ (0 < c)
+one_of (suc a) b c h = let some : 0 < suc a = omega arith in inl some
+one_of zero (suc b) c h = let some : 0 < suc b = omega arith in inr (inl some)
+one_of zero zero c h = let some : 0 < c = omega arith in inr (inr some)

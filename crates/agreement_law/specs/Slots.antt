@@ -1,7 +1,6 @@
 -- What one slot makes of true marks: where its actions meet the rules, marks that are true at its start
 -- give marks that are true at its end. The rules are told in docs/RULES.md, "Marks" and "Acceptance".
 use Rattle.std.specs.Prelude.{◌≡◌, ℕ, Bool, true, false, Some, List, take, slice_get}
-use Rattle.id_arena.specs.declared.wire.Wire.{Wire}
 use Rattle.design_core.specs.declared.element.Memory.{Memory}
 use Rattle.design_core.specs.declared.element.Driver.TheVariants as driven
 use Rattle.design_core.specs.declared.node.NodeId.{NodeId}
@@ -15,7 +14,6 @@ use Rattle.emu_machine.specs.declared.netlist.EmuRegister.{EmuRegister}
 use Rattle.emu_machine.specs.declared.place.Thing.{Thing}
 use Rattle.emu_machine.specs.declared.results.Results.{Results}
 use Rattle.emu_machine.specs.declared.schedule.Action.{Action}
-use Rattle.emu_machine.specs.declared.schedule.Action.TheVariants as action
 use Rattle.emu_machine.specs.Netlist.{chip_at}
 use Rattle.emu_machine.specs.State.{State, slot_step}
 use Rattle.emu_machine.specs.Mapped.{memory_of}
@@ -65,16 +63,3 @@ KeepsMarks c k actions =
 abbrev pub SlotKeepsMarks : Type 0
 SlotKeepsMarks =
     (c : Case) (k : ℕ) (actions : List Action) → IsCase c → PartsFit c → ActionsFit c k actions → KeepsMarks c k actions
-
--- an action takes in from outside
-abbrev pub IsInput : Action → Type 0
-IsInput (action.Input chip register net) = Unit {0}
-IsInput other = ⊥
-
-abbrev pub AreInputs : List Action → Type 0
-AreInputs actions = (j : ℕ) (a : Action) → slice_get actions j ≡ Some a → IsInput a
-
--- a slot whose actions all take in from outside keeps true marks true
-abbrev pub InputSlotsKeepMarks : Type 0
-InputSlotsKeepMarks =
-    (c : Case) (k : ℕ) (actions : List Action) → IsCase c → ActionsFit c k actions → AreInputs actions → KeepsMarks c k actions

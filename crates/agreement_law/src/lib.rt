@@ -1,7 +1,8 @@
-//! What acceptance promises, for every case: laws that lead from the marks to the agreement of machine
-//! and design.
+//! From true marks to agreement: laws that lead from what one slot does to whole runs of the machine.
 //!
-//! The crate has no code that runs. Each public function is empty, and its contract is a law.
+//! The definitions say what it means that marks are true of a state, and that a slot keeps them so. The
+//! law joins slots to frames, and frames to runs beside a history. The crate has no code that runs: its
+//! function is empty, and its contract is the law.
 #![tactic(auto)]
 
-pub mod slots;
+pub mod agreement;

@@ -155,6 +155,39 @@ fn the_first_text_that_is_not_of_its_form_is_named(rt: HostRuntime) -> Result<()
 }
 
 #[test]
+fn faults_of_the_design_are_told_with_their_bytes(rt: HostRuntime) -> Result<(), Fail> {
+    for (bytes, printed) in [
+        (
+            b"module t(y); output y; buf(y,1'bx); endmodule".as_slice(),
+            b"refused design UnknownDigit 32\n".as_slice(),
+        ),
+        (b"module t; /* ab", b"refused design OpenComment 10\n"),
+        (b"module t; (* ab", b"refused design OpenAttribute 10\n"),
+        (b"module t; 4294967296", b"refused design BadNumber 10\n"),
+        (b"module t; #", b"refused design BadByte 10\n"),
+        (b"module t; `define", b"refused design Directive 10\n"),
+        (
+            b"module t; reg r; endmodule",
+            b"refused design Unsupported 10\n",
+        ),
+        (
+            b"module t; wire \\a b; endmodule",
+            b"refused design Expected 18\n",
+        ),
+        (b"module t;", b"refused design Expected 9\n"),
+        (
+            b"module t;assign y={{{{{{{{{{{{{{{{{{{{{{{{{{{{{{{{{{{{{{{{{{{{{{{{{{{{{{{{{{{{{{{{{",
+            b"refused design TooDeep 82\n",
+        ),
+    ] {
+        let ended = end_with(rt.alloc(), b"d.v", bytes)?;
+        assert_eq!(rt; ended.out.written(), printed);
+        assert_eq!(rt; ended.status, Status::Refused);
+    }
+    Ok(())
+}
+
+#[test]
 fn a_put_that_fails_is_a_write_fault(rt: HostRuntime) -> Result<(), Fail> {
     let ended = end_of(rt.alloc(), CHECK, &mut inverter(rt.alloc(), &[])?, &[0])?;
     assert_eq!(rt; ended.out.written(), b"accepted\n".as_slice());

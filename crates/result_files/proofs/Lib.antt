@@ -1,2 +1,14 @@
 pub mod Inside
 pub mod MapParts
+pub mod Entries
+pub mod Refusals
+pub mod Schedules
+pub mod Maps
+pub mod Digits
+pub mod Words
+pub mod Numbers
+pub mod Lines
+pub mod Netlists
+pub mod Driven
+pub mod Parts
+pub mod Chips

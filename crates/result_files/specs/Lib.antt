@@ -3,3 +3,10 @@ pub mod Trees
 pub mod Faults
 pub mod OneActionSchedule
 pub mod TwoNetMap
+pub mod Lists
+pub mod PlainSchedule
+pub mod PlainMap
+pub mod PlainNetlist
+pub mod Taken
+pub mod Digits
+pub mod Drivers

@@ -11,3 +11,6 @@ mod words;
 pub use keyword::keywords_are_named;
 pub use word::Word;
 pub use words::{are_words, is_word_at, name_at};
+
+#[cfg(test)]
+mod tests;

@@ -1,6 +1,11 @@
 //! Texts with their faults.
 
-use crate::{ParseFault, has_one_tree, parse, texts_are_read, words_stand};
+use crate::{
+    Dir, Expr, IndexRange, Item, Links, Module, ParseFault, Source, has_one_tree, parse,
+    texts_are_read, words_stand,
+};
+use emu_io::NoMemory;
+use std::alloc::Global;
 use std::test::Fail;
 use verilog_lex::{Tokens, tokens};
 
@@ -250,5 +255,122 @@ fn names_each_fault(rt: HostRuntime) -> Result<(), Fail> {
             .and_then(|fault| fault_of(&tokens, source, fault));
         assert_eq!(rt; fault, Some((*kind, *byte)), "{}", source.escape_ascii());
     }
+    Ok(())
+}
+
+/// A letter for each kind of item.
+fn letter_of(item: &Item) -> u8 {
+    match item {
+        Item::Ports { .. } => b'P',
+        Item::Nets { .. } => b'N',
+        Item::Supply { .. } => b'S',
+        Item::Assign { .. } => b'A',
+        Item::Gates { .. } => b'G',
+        Item::Instances { .. } => b'I',
+    }
+}
+
+/// The only module of a text.
+fn only_module(tree: &Source) -> Option<&Module> {
+    match tree.modules.as_slice() {
+        [module] => Some(module),
+        _ => None,
+    }
+}
+
+/// The letters of a module's items.
+fn letters_of(alloc: Global, items: &[Item]) -> Result<Vec<u8>, NoMemory> {
+    let mut letters = Vec::new(alloc);
+    for item in items {
+        letters.push(letter_of(item))?;
+    }
+    Ok(letters)
+}
+
+/// The token of a name without a select.
+fn whole_of(expr: &Expr) -> Option<u32> {
+    match expr {
+        Expr::Whole(name) => Some(*name),
+        _ => None,
+    }
+}
+
+/// The name and the two terminals of the first primitive of an item.
+fn first_gate(item: &Item) -> Option<(Option<u32>, Option<u32>, Option<u32>)> {
+    let Item::Gates { prims, .. } = item else {
+        return None;
+    };
+    let [prim] = prims.as_slice() else {
+        return None;
+    };
+    let [output, input] = prim.terminals.as_slice() else {
+        return None;
+    };
+    Some((prim.name, whole_of(output), whole_of(input)))
+}
+
+/// The places of the connections by order of the only instance of an item; None for an empty one.
+fn only_link(item: &Item) -> Option<Option<u32>> {
+    let Item::Instances { insts, .. } = item else {
+        return None;
+    };
+    let [inst] = insts.as_slice() else {
+        return None;
+    };
+    let Links::Ordered(places) = &inst.links else {
+        return None;
+    };
+    match places.as_slice() {
+        [Some(expr), None] => Some(whole_of(expr)),
+        _ => None,
+    }
+}
+
+/// The token, the direction and the range of the first name of an item that gives directions.
+fn first_port(item: &Item) -> Option<(u32, Dir, Option<IndexRange>)> {
+    let Item::Ports {
+        dir,
+        range,
+        names,
+        ..
+    } = item
+    else {
+        return None;
+    };
+    let [name] = names.as_slice() else {
+        return None;
+    };
+    Some((*name, *dir, *range))
+}
+
+#[test]
+fn a_text_has_its_tree(rt: HostRuntime) -> Result<(), Fail> {
+    let source =
+        b"module t(a,y);input [3:0] a;output y;wire w;supply1 s;assign y=w;not g(y,a);h u(a,);endmodule";
+    let tokens = tokens(rt.alloc(), source)?;
+    let tree = parse(rt.alloc(), &tokens).ok();
+    let module = tree.as_ref().and_then(only_module);
+    assert_eq!(rt;
+        module.map(|m| (m.name, m.ports.len(), m.items.len())),
+        Some((1, 2, 7))
+    );
+    let items = match module {
+        Some(module) => module.items.as_slice(),
+        None => &[],
+    };
+    assert_eq!(rt;
+        letters_of(rt.alloc(), items)?.as_slice(),
+        b"PPNSAGI".as_slice()
+    );
+    let range = Some(IndexRange { left: 3, right: 0 });
+    assert_eq!(rt;
+        items.first().and_then(first_port),
+        Some((14, Dir::Input, range))
+    );
+    assert_eq!(rt;
+        items.get(5).and_then(first_gate),
+        Some((Some(31), Some(33), Some(35)))
+    );
+    assert_eq!(rt; items.last().and_then(only_link), Some(Some(41)));
     Ok(())
 }

@@ -1,0 +1,4 @@
+pub mod Loads
+pub mod Writes
+pub mod Sampled
+pub mod Whole
