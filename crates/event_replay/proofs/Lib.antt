@@ -1,0 +1,10 @@
+mod Answering
+mod FirstPorts
+mod HexDigits
+mod InputBits
+mod OneOpening
+mod Pieces
+mod ReadDigits
+mod Taken
+mod Told
+mod Zips

@@ -1,0 +1,89 @@
+//! The input ports of a design, found by name.
+
+ghost use Rattle.std.specs.Prelude.{◌≡◌, ◌<◌, length, IfOk, IfSome, MatchOption};
+ghost use Rattle.event_replay.specs.Settings.{Setting, Sets, port_named};
+ghost use Rattle.event_replay.specs.Values.{hex_number};
+
+use crate::values::is_value;
+use design_core::Port;
+use emu_io::NoMemory;
+use id_arena::{Names, NetId};
+use std::alloc::Global;
+use std::marker::Model;
+
+/// Ports, each of which is found by its name without a walk over all. Of ports with one name the first
+/// is found. A clause sees the ports.
+#[derive(Drop)]
+pub(crate) struct PortNames<'d> {
+    ports: &'d [Port],
+    names: Names,
+    /// The place of the first port of each name.
+    firsts: Vec<usize>,
+}
+
+impl<'d> Model for PortNames<'d> {
+    ghost use Rattle.std.specs.Prelude.{List};
+    ghost use Rattle.design_core.specs.declared.parts.Port.{Port};
+    ghost use Rattle.event_replay.specs.Index.{Indexes};
+
+    ghost Value = { List Port };
+
+    ghost view = { λ p. p.ports.now };
+
+    ghost invariant = { λ p. Indexes p.ports.now p.names p.firsts.items };
+}
+
+impl<'d> PortNames<'d> {
+    /// Takes in the names of the ports.
+    pub(crate) fn new(alloc: Global, ports: &'d [Port]) -> Result<PortNames<'d>, NoMemory>
+        ensures { IfOk result (λ names. names ≡ ports.now) }
+    {
+        let mut names = Names::new(alloc);
+        let mut firsts = Vec::new(alloc);
+        'ports: for place in 0..ports.len() {
+            let known = names.len();
+            // A design has fewer ports than there are numbers of names.
+            let Ok(number) = names.intern(ports[place].name.bytes()) else {
+                return Err(NoMemory);
+            };
+            if number == known {
+                firsts.push(place)?;
+            }
+        }
+        Ok(PortNames {
+            ports,
+            names,
+            firsts,
+        })
+    }
+
+    /// The place and the nets of the port of this name, where the digits are a value for it.
+    pub(crate) fn set(&self, name: &[u8], digits: &[u8]) -> Option<(usize, &'d [NetId])>
+        ensures { MatchOption result
+            ((s : Setting) → Sets self.now name.now digits.now s → ⊥)
+            (λ set. Sets self.now name.now digits.now
+            (record { port = set.0; nets = set.1.now; number = hex_number digits.now })) }
+    {
+        let Some(place) = self.find(name) else {
+            return None;
+        };
+        let ports = self.ports;
+        let nets = ports[place].nets.as_slice();
+        if is_value(digits, nets.len()) {
+            Some((place, nets))
+        } else {
+            None
+        }
+    }
+
+    /// The place of the first port of this name.
+    fn find(&self, name: &[u8]) -> Option<usize>
+        ensures place { result ≡ port_named self.now name.now }
+        ensures within { IfSome result (λ place. place < length self.now) }
+    {
+        match self.names.find(name) {
+            Some(number) => Some(self.firsts[number as usize]),
+            None => None,
+        }
+    }
+}
