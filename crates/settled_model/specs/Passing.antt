@@ -1,12 +1,21 @@
 -- What each element gives to its output, in an opening and in an event.
 -- The rules are told in docs/RULES.md, "Opened" and "After an event".
-use Rattle.std.specs.Prelude.{Bool, false, if◌then◌else◌, unwrap_or}
+use Rattle.std.specs.Prelude.{◌≡◌, ◌<◌, ℕ, Bool, false, Option, Some, None, List, if◌then◌else◌, length, unwrap_or, slice_get, slice_set, Contains}
+use Rattle.id_arena.specs.declared.keys.NetId.{NetId}
 use Rattle.design_core.specs.declared.element.Element.{Element}
 use Rattle.design_core.specs.declared.element.Element.TheVariants as element
+use Rattle.design_core.specs.declared.element.Driver.{Driver}
+use Rattle.design_core.specs.declared.element.Driver.TheVariants.{Constant, Input, Elem, Read}
+use Rattle.design_core.specs.declared.node.NodeId.{NodeId}
+use Rattle.design_core.specs.declared.node.NodeId.TheVariants.{Net, Write}
+use Rattle.design_core.specs.declared.parts.Parts.{Parts}
 use Rattle.design_core.specs.Operation.{op_value}
+use Rattle.design_core.specs.Design.{net_count, driver}
+use Rattle.design_core.specs.Dependency.{IsNode, dependencies}
 use Rattle.design_core.specs.Valuation.{Valuation, values, forced, passed, has_edge}
 use Rattle.settled_model.specs.declared.turn.Turn.{Turn}
 use Rattle.settled_model.specs.declared.turn.Turn.TheVariants.{Opening, Event}
+use Rattle.settled_model.specs.Held.{shown}
 
 -- no edge counts in an opening
 abbrev pub counts : Turn → Bool → Bool
@@ -27,3 +36,33 @@ element_value turn v u (element.Gate op inputs output) = op_value op (values u i
 element_value turn v u (element.Flop f) = unwrap_or (forced f.clear f.preset u) (kept turn v u (element.Flop f))
 element_value turn v u (element.Latch l) = unwrap_or (passed l u) (kept turn v u (element.Latch l))
 element_value turn v u (element.Memory m) = false
+
+abbrev pub value_at : Turn → Valuation → Valuation → Option Element → Bool
+value_at turn v u None = false
+value_at turn v u (Some e) = element_value turn v u e
+
+-- what a driver gives to its net, for the values that inputs have; there is no memory to read
+abbrev pub driver_value : Parts → Turn → (ℕ → Bool) → Valuation → Valuation → ℕ → Driver → Bool
+driver_value p turn inputs v u n (Constant b) = b
+driver_value p turn inputs v u n Input = inputs n
+driver_value p turn inputs v u n (Elem k) = value_at turn v u (slice_get p.elements k.place)
+driver_value p turn inputs v u n (Read m r b) = false
+
+-- the table in which a node has what is given to it
+abbrev pub renewed : Parts → Turn → List Bool → NodeId → List Bool → List Bool
+renewed p turn old (Net n) new =
+    slice_set new n.place (driver_value p turn (shown new).net (shown old) (shown new) n.place (driver p n.place))
+renewed p turn old (Write m k) new = new
+
+-- the table in which each net has what its driver gives, where inputs have what they had at the start
+pub record AreRenewed (p : Parts) (turn : Turn) (old start new : List Bool) : Type 0 where
+  pub size : length new ≡ net_count p
+  pub nets : (n : ℕ) → n < net_count p
+      → (shown new).net n ≡ driver_value p turn (shown start).net (shown old) (shown new) n (driver p n)
+
+-- each net stands in the order, no node twice, and each node after all on which it depends
+pub record IsOrder (p : Parts) (order : List NodeId) : Type 0 where
+  pub nodes : (k : ℕ) (a : NodeId) → slice_get order k ≡ Some a → IsNode p a
+  pub all : (n : NetId) → n.place < net_count p → Contains order (Net n)
+  pub once : (j k : ℕ) (a : NodeId) → slice_get order j ≡ Some a → slice_get order k ≡ Some a → j ≡ k
+  pub earlier : (j k : ℕ) (a b : NodeId) → slice_get order k ≡ Some a → slice_get order j ≡ Some b → Contains (dependencies p a) b → j < k

@@ -7,4 +7,5 @@
 
 mod elements;
 mod gates;
+mod pass;
 mod turn;

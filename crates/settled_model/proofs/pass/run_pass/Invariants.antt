@@ -1,0 +1,6 @@
+-- The nodes so far have had their turn.
+use Rattle.settled_model.proofs.Passes.{IsPassed}
+use Rattle.settled_model.proofs.pass.run_pass.Given as goal
+
+abbrev pub invariant-nodes : goal.invariant-nodes
+invariant-nodes l = IsPassed l.design l.order l.fn.turn l.old l.initial.new l.place l.new
