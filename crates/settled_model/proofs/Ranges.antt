@@ -1,8 +1,8 @@
 -- The nets and inputs of an element of a design, within its bounds.
-use Rattle.std.proofs.Common.{◌≡◌, ◌<◌, ◌≤◌, ℕ, Bool, true, List, [], ◌∷◌, map, length, refl, ap, ◌∙◌, arith}
-use Rattle.std.specs.Prelude.{Some, slice_get, nat_lt, ◌&&◌}
+use Rattle.std.proofs.Common.{◌≡◌, ◌<◌, ◌≤◌, ℕ, Bool, true, List, [], ◌∷◌, map, length, get_or, refl, sym, ap, ◌∙◌, arith}
+use Rattle.std.specs.Prelude.{Some, slice_get, nat_lt, ◌&&◌, Contains}
 use Rattle.std.proofs.lemmas.Bool.Decides.{nat_tests}
-use Rattle.std.proofs.lemmas.Option.{slice_get_within}
+use Rattle.std.proofs.lemmas.Option.{slice_get_within, slice_get-get_or, same_Some}
 use Rattle.id_arena.specs.declared.keys.NetId.{NetId}
 use Rattle.id_arena.specs.declared.keys.ElemId.{ElemId}
 use Rattle.design_core.specs.declared.element.Element.{Element}
@@ -18,7 +18,7 @@ use Rattle.history_law.proofs.Naming.{same_number, element_is_driver, driver_is_
 use Rattle.history_law.proofs.Ranges.{Each, InRange, within_each, element_within}
 
 module _ (p : Parts) where
-  there : (n : NetId) → n.place < net_count p → is_there (net_count p) n ≡ true
+  pub there : (n : NetId) → n.place < net_count p → is_there (net_count p) n ≡ true
   there n low = let less : nat_lt n.place (net_count p) ≡ true = grind (arith, nat_tests) in less
 
   each_there : (nets : List NetId) → Each (InRange p) (map Net nets) → are_there (net_count p) nets ≡ true
@@ -43,3 +43,7 @@ module _ (p : Parts) where
 
   pub driver_there : (n : ℕ) (k : ElemId) → driver p n ≡ Elem k → k.place < length p.elements
   driver_there n k e = let h = driver_is_element p n k e in slice_get_within p.elements k.place h.0 h.1
+
+pub item_among : {X : Type 0} (xs : List X) (k : ℕ) (other : X) → k < length xs → Contains xs (get_or xs k other)
+item_among xs k other low =
+    (k, low, same_Some _ _ (sym (slice_get-get_or xs k (get_or xs k other) low) ∙ slice_get-get_or xs k other low))

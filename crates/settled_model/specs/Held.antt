@@ -11,3 +11,11 @@ shown nets = record { net = λ n. get_or nets n false; word = λ m a. 0 }
 -- the designs that are settled so far
 abbrev pub HasNoMemory : Parts → Type 0
 HasNoMemory p = p.memories ≡ []
+
+-- the parts of a design, and the value of each net
+pub record Held : Type 0 where
+  pub parts : Parts
+  pub nets : List Bool
+
+abbrev pub valuation : Held → Valuation
+valuation h = shown h.nets

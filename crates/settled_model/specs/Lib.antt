@@ -1,2 +1,4 @@
 pub mod Held
 pub mod Passing
+pub mod Opening
+pub mod Ranks

@@ -1,7 +1,9 @@
 -- What each element gives to its output, in an opening and in an event.
 -- The rules are told in docs/RULES.md, "Opened" and "After an event".
-use Rattle.std.specs.Prelude.{◌≡◌, ◌<◌, ℕ, Bool, false, Option, Some, None, List, if◌then◌else◌, length, unwrap_or, slice_get, slice_set, Contains}
+use Rattle.std.specs.Prelude.{◌≡◌, ◌<◌, ◌==◌, ◌||◌, ℕ, Bool, false, Option, Some, None, List, if◌then◌else◌, length, unwrap_or, slice_get, slice_set, get_or, Contains}
+use Rattle.std.specs.List.{list_any}
 use Rattle.id_arena.specs.declared.keys.NetId.{NetId}
+use Rattle.id_arena.specs.declared.keys.ElemId.{ElemId}
 use Rattle.design_core.specs.declared.element.Element.{Element}
 use Rattle.design_core.specs.declared.element.Element.TheVariants as element
 use Rattle.design_core.specs.declared.element.Driver.{Driver}
@@ -9,8 +11,10 @@ use Rattle.design_core.specs.declared.element.Driver.TheVariants.{Constant, Inpu
 use Rattle.design_core.specs.declared.node.NodeId.{NodeId}
 use Rattle.design_core.specs.declared.node.NodeId.TheVariants.{Net, Write}
 use Rattle.design_core.specs.declared.parts.Parts.{Parts}
+use Rattle.design_core.specs.declared.values.PortBit.{PortBit}
 use Rattle.design_core.specs.Operation.{op_value}
 use Rattle.design_core.specs.Design.{net_count, driver}
+use Rattle.design_core.specs.Event.{given}
 use Rattle.design_core.specs.Dependency.{IsNode, dependencies}
 use Rattle.design_core.specs.Valuation.{Valuation, values, forced, passed, has_edge}
 use Rattle.settled_model.specs.declared.turn.Turn.{Turn}
@@ -66,3 +70,29 @@ pub record IsOrder (p : Parts) (order : List NodeId) : Type 0 where
   pub all : (n : NetId) → n.place < net_count p → Contains order (Net n)
   pub once : (j k : ℕ) (a : NodeId) → slice_get order j ≡ Some a → slice_get order k ≡ Some a → j ≡ k
   pub earlier : (j k : ℕ) (a b : NodeId) → slice_get order k ≡ Some a → slice_get order j ≡ Some b → Contains (dependencies p a) b → j < k
+
+-- a net that is given a value has it, and each other one keeps its own
+pub record HasPut (values : List PortBit) (before after : List Bool) : Type 0 where
+  pub size : length after ≡ length before
+  pub nets : (n : ℕ) → get_or after n false ≡ unwrap_or (given values n) (get_or before n false)
+
+-- whether an element is a flip-flop or latch with this output
+abbrev pub is_state : ℕ → Element → Bool
+is_state n (element.Gate op inputs output) = false
+is_state n (element.Flop f) = f.q.place == n
+is_state n (element.Latch l) = l.q.place == n
+is_state n (element.Memory m) = false
+
+abbrev pub is_state_at : ℕ → Option Element → Bool
+is_state_at n None = false
+is_state_at n (Some e) = is_state n e
+
+-- the output of a flip-flop or latch is 1, and each other net keeps its value
+pub record HasSetOne (e : Element) (before after : List Bool) : Type 0 where
+  pub size : length after ≡ length before
+  pub nets : (n : ℕ) → get_or after n false ≡ (get_or before n false || is_state n e)
+
+-- the output of each of these flip-flops and latches is 1, and each other net keeps its value
+pub record HasSet (p : Parts) (ones : List ElemId) (before after : List Bool) : Type 0 where
+  pub size : length after ≡ length before
+  pub nets : (n : ℕ) → get_or after n false ≡ (get_or before n false || list_any (λ id. is_state_at n (slice_get p.elements id.place)) ones)

@@ -7,5 +7,13 @@
 
 mod elements;
 mod gates;
+mod opening;
 mod pass;
+mod ranked;
+mod settled;
+mod tables;
 mod turn;
+
+pub use opening::{OpenWord, Opening};
+pub use ranked::Ranked;
+pub use settled::Settled;

@@ -5,26 +5,27 @@ ghost use Rattle.design_core.specs.Dependency.{IsNode};
 ghost use Rattle.design_core.specs.Design.{IsDesign, driver, net_count};
 ghost use Rattle.design_core.specs.Limits.{IsWithin};
 ghost use Rattle.settled_model.specs.Held.{HasNoMemory, shown};
-ghost use Rattle.settled_model.specs.Passing.{AreRenewed, IsOrder, driver_value, renewed};
+ghost use Rattle.settled_model.specs.Passing.{AreRenewed, driver_value, renewed};
 
 use crate::elements::element_value;
 use crate::gates::value_of;
+use crate::ranked::Ranked;
 use crate::turn::Turn;
 use design_core::{Design, Driver, NodeId};
 use id_arena::{Key, NetId};
 
 /// Gives each net what its driver gives it. What was there before is kept for inputs.
-pub(crate) fn run_pass(design: &Design, order: &[NodeId], turn: Turn, old: &[bool], new: &mut [bool])
-    requires design { IsDesign design.now }
-    requires within { IsWithin design.now }
-    requires no_memory { HasNoMemory design.now }
-    requires order { IsOrder design.now order.now }
-    requires old_size { length old.now ≡ net_count design.now }
-    requires new_size { length new.old ≡ net_count design.now }
-    ensures { AreRenewed design.now turn old.now new.old new.new }
+pub(crate) fn run_pass(ranked: &Ranked<'_>, turn: Turn, old: &[bool], new: &mut [bool])
+    requires no_memory { HasNoMemory ranked.now.design }
+    requires old_size { length old.now ≡ net_count ranked.now.design }
+    requires new_size { length new.old ≡ net_count ranked.now.design }
+    ensures { AreRenewed ranked.now.design turn old.now new.old new.new }
 {
-    'nodes: for place in 0..order.len() {
-        renew(design, order[place], turn, old, new);
+    let design = ranked.design();
+    design.stands();
+    ranked.stands();
+    'nodes: for place in 0..ranked.len() {
+        renew(design, ranked.at(place), turn, old, new);
     }
 }
 

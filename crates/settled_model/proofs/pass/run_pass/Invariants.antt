@@ -3,4 +3,4 @@ use Rattle.settled_model.proofs.Passes.{IsPassed}
 use Rattle.settled_model.proofs.pass.run_pass.Given as goal
 
 abbrev pub invariant-nodes : goal.invariant-nodes
-invariant-nodes l = IsPassed l.design l.order l.fn.turn l.old l.initial.new l.place l.new
+invariant-nodes l = IsPassed l.ranked.design l.ranked.order l.fn.turn l.old l.initial.new l.place l.new

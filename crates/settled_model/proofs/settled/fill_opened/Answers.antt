@@ -1,0 +1,26 @@
+-- The pass from the states that are set and the inputs that are put in gives the opened valuation.
+use Rattle.std.proofs.Common.{◌≡◌, ℕ, List, false, replicate, length, subst, sym, ap, refl, ◌∙◌}
+use Rattle.std.proofs.lemmas.List.{length-replicate}
+use Rattle.id_arena.specs.declared.keys.ElemId.{ElemId}
+use Rattle.design_core.specs.declared.parts.Parts.{Parts}
+use Rattle.design_core.specs.Design.{IsDesign, net_count}
+use Rattle.settled_model.specs.Opening.{AreElements}
+use Rattle.settled_model.proofs.Outcomes.{inputs_there, put_in, set_in, opened}
+use Rattle.settled_model.proofs.settled.fill_opened.Goals as goal
+
+pub set_states-requires-clause-ones : goal.set_states-requires-clause-ones
+set_states-requires-clause-ones c =
+    subst (λ (ids : List ElemId). AreElements c.design-design.result.now ids) (sym c.as_slice.ensures)
+    (subst (λ (p : Parts). AreElements p c.args.opening.now.ones) (sym c.design-design.ensures) c.requires.opening.ones)
+
+pub put_values-requires : goal.put_values-requires
+put_values-requires c =
+    inputs_there c.args.ranked.now.design (subst IsDesign c.design-design.ensures c.stands.ensures.design) c.args.opening.now.inputs c.as_slice-2.result.now _ c.requires.opening.inputs c.as_slice-2.ensures
+    (ap length c.requires.nets ∙ length-replicate (net_count c.args.ranked.now.design) false)
+
+pub returns : goal.returns
+returns c =
+    opened c.args.ranked.now.design c.args.opening.now c.set_states.new.nets c.put_values.new.nets c.run_pass.new.new (subst IsDesign c.design-design.ensures c.stands.ensures.design) c.requires.no_memory
+    (set_in c.args.ranked.now.design c.design-design.result.now c.args.opening.now.ones c.as_slice.result.now (replicate (net_count c.args.ranked.now.design) false) _ c.set_states.new.nets c.design-design.ensures c.as_slice.ensures c.requires.states c.set_states.ensures)
+    (put_in c.args.opening.now.inputs c.as_slice-2.result.now (replicate (net_count c.args.ranked.now.design) false) _ c.put_values.new.nets c.as_slice-2.ensures c.requires.nets c.put_values.ensures)
+    c.run_pass.ensures
