@@ -1,4 +1,5 @@
 pub mod Held
 pub mod Passing
 pub mod Opening
+pub mod Runs
 pub mod Ranks

@@ -7,6 +7,7 @@
 
 mod elements;
 mod gates;
+mod laws;
 mod opening;
 mod pass;
 mod ranked;
@@ -14,6 +15,7 @@ mod settled;
 mod tables;
 mod turn;
 
+pub use laws::{openings_fit, runs_give_the_history, runs_grow};
 pub use opening::{OpenWord, Opening};
 pub use ranked::Ranked;
 pub use settled::Settled;
