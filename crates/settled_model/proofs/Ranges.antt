@@ -1,8 +1,8 @@
 -- The nets and inputs of an element of a design, within its bounds.
-use Rattle.std.proofs.Common.{◌≡◌, ◌<◌, ◌≤◌, ℕ, Bool, true, List, [], ◌∷◌, map, length, get_or, refl, sym, ap, ◌∙◌, arith}
-use Rattle.std.specs.Prelude.{Some, slice_get, nat_lt, ◌&&◌, Contains}
+use Rattle.std.proofs.Common.{◌≡◌, ◌<◌, ◌≤◌, ℕ, zero, suc, Bool, true, List, [], ◌∷◌, map, length, get_or, refl, sym, ap, ◌∙◌, arith}
+use Rattle.std.specs.Prelude.{Some, None, slice_get, nat_lt, ◌&&◌, Contains}
 use Rattle.std.proofs.lemmas.Bool.Decides.{nat_tests}
-use Rattle.std.proofs.lemmas.Option.{slice_get_within, slice_get-get_or, same_Some}
+use Rattle.std.proofs.lemmas.Option.{none-some, slice_get_within, slice_get-get_or, same_Some}
 use Rattle.id_arena.specs.declared.keys.NetId.{NetId}
 use Rattle.id_arena.specs.declared.keys.ElemId.{ElemId}
 use Rattle.design_core.specs.declared.element.Element.{Element}
@@ -21,7 +21,7 @@ module _ (p : Parts) where
   pub there : (n : NetId) → n.place < net_count p → is_there (net_count p) n ≡ true
   there n low = let less : nat_lt n.place (net_count p) ≡ true = grind (arith, nat_tests) in less
 
-  each_there : (nets : List NetId) → Each (InRange p) (map Net nets) → are_there (net_count p) nets ≡ true
+  pub each_there : (nets : List NetId) → Each (InRange p) (map Net nets) → are_there (net_count p) nets ≡ true
   each_there [] h = refl
   each_there (n ∷ nets) h = ap (λ b. b && are_there (net_count p) nets) (there n h.0) ∙ each_there nets h.1
 
@@ -47,3 +47,8 @@ module _ (p : Parts) where
 pub item_among : {X : Type 0} (xs : List X) (k : ℕ) (other : X) → k < length xs → Contains xs (get_or xs k other)
 item_among xs k other low =
     (k, low, same_Some _ _ (sym (slice_get-get_or xs k (get_or xs k other) low) ∙ slice_get-get_or xs k other low))
+
+pub missing : {X : Type 0} (xs : List X) (k : ℕ) → k < length xs → slice_get xs k ≡ None → ⊥
+missing [] k low e = omega arith
+missing (x ∷ xs) zero low e = none-some x (sym e)
+missing (x ∷ xs) (suc k) low e = let less : k < length xs = omega arith in missing xs k less e

@@ -28,11 +28,14 @@ IsWord p w =
     × (w.address < 2 ^ memory.address_bits)
     × (w.value < 2 ^ memory.width)
 
+abbrev pub AreWords : Parts → List OpenWord → Type 0
+AreWords p words = (w : OpenWord) → Contains words w → IsWord p w
+
 -- an opening is one of this design
 pub record Opens (p : Parts) (o : Opening) : Type 0 where
   pub inputs : AreInputs p o.inputs
   pub ones : AreElements p o.ones
-  pub words : (w : OpenWord) → Contains o.words w → IsWord p w
+  pub words : AreWords p o.words
 
 -- whether an element is among these
 abbrev pub is_among : List ElemId → ℕ → Bool

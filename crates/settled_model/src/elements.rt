@@ -16,7 +16,7 @@ use design_core::{Element, Flop, Latch, Level};
 use id_arena::NetId;
 
 /// Whether a net has the value at which it acts.
-fn acts(level: Level, nets: &[bool]) -> bool
+pub(crate) fn acts(level: Level, nets: &[bool]) -> bool
     requires { IsTrue (is_there (length nets.now) level.net) }
     ensures { result ≡ acts (shown nets.now) level }
 {
@@ -49,7 +49,7 @@ fn forced(clear: Option<Level>, preset: Option<Level>, nets: &[bool]) -> Option<
 }
 
 /// Whether a clock has its edge between two valuations.
-fn has_edge(clock: NetId, rise: bool, old: &[bool], new: &[bool]) -> bool
+pub(crate) fn has_edge(clock: NetId, rise: bool, old: &[bool], new: &[bool]) -> bool
     requires before { IsTrue (is_there (length old.now) clock) }
     requires after { IsTrue (is_there (length new.now) clock) }
     ensures { result ≡ has_edge (shown old.now) (shown new.now) clock rise }

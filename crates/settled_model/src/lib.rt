@@ -8,6 +8,7 @@
 mod elements;
 mod gates;
 mod laws;
+mod memory;
 mod opening;
 mod pass;
 mod ranked;

@@ -3,10 +3,13 @@
 ghost use Rattle.std.specs.Prelude.{◌≡◌, ◌<◌, IfOk, false, length, replicate};
 ghost use Rattle.design_core.specs.Design.{net_count};
 ghost use Rattle.design_core.specs.Event.{IsAfter};
+ghost use Rattle.design_core.specs.Limits.{word_count};
 ghost use Rattle.design_core.specs.Settled.{IsOpened};
-ghost use Rattle.settled_model.specs.Held.{HasNoMemory, shown, valuation};
+ghost use Rattle.design_core.specs.Valuation.{IsAddress};
+ghost use Rattle.settled_model.specs.Held.{AreBases, holding, valuation};
 ghost use Rattle.settled_model.specs.Opening.{AreInputs, Opens, stands_for};
 
+use crate::memory::{bases_of, put_words};
 use crate::opening::Opening;
 use crate::pass::run_pass;
 use crate::ranked::Ranked;
@@ -14,14 +17,15 @@ use crate::tables::{put_values, set_states};
 use crate::turn::Turn;
 use design_core::PortValues;
 use emu_io::NoMemory;
-use id_arena::{Key, NetId};
+use id_arena::{Key, MemId, NetId};
 use std::alloc::Global;
 use std::marker::Model;
 use std::mem;
 
 /// The settled valuation of a ranked design, from its opening on and through its events.
 ///
-/// A clause sees the design's parts, and the value of each net.
+/// A clause sees the design's parts, the value of each net, and the words of all memories, one after the
+/// other.
 #[derive(Drop)]
 pub struct Settled<'a> {
     ranked: &'a Ranked<'a>,
@@ -29,38 +33,47 @@ pub struct Settled<'a> {
     nets: Vec<bool>,
     /// Room for the values after the next event.
     next: Vec<bool>,
+    /// Where the words of each memory begin.
+    bases: Vec<usize>,
+    words: Vec<u128>,
 }
 
 impl<'a> Model for Settled<'a> {
     ghost use Rattle.std.specs.Prelude.{◌≡◌, length};
     ghost use Rattle.design_core.specs.Design.{net_count};
-    ghost use Rattle.settled_model.specs.Held.{HasNoMemory, Held};
+    ghost use Rattle.design_core.specs.Limits.{word_count};
+    ghost use Rattle.settled_model.specs.Held.{AreBases, Held};
 
     ghost Value = { Held };
 
-    ghost view = { λ s. record { parts = s.ranked.now.design; nets = s.nets.items } };
+    ghost view = { λ s. record { parts = s.ranked.now.design; nets = s.nets.items; words = s.words.items } };
 
-    ghost invariant = { λ s. HasNoMemory s.ranked.now.design
-        × (length s.nets.items ≡ net_count s.ranked.now.design)
-        × (length s.next.items ≡ net_count s.ranked.now.design) };
+    ghost invariant = { λ s. (length s.nets.items ≡ net_count s.ranked.now.design)
+        × (length s.next.items ≡ net_count s.ranked.now.design)
+        × AreBases s.ranked.now.design s.bases.items
+        × (length s.words.items ≡ word_count s.ranked.now.design) };
 }
 
 impl<'a> Settled<'a> {
     /// The opened valuation.
     pub fn open(alloc: Global, ranked: &'a Ranked<'a>, opening: &Opening) -> Result<Settled<'a>, NoMemory>
-        requires no_memory { HasNoMemory ranked.now.design }
-        requires opening { Opens ranked.now.design opening.now }
+        requires { Opens ranked.now.design opening.now }
         ensures design { IfOk result (λ s. s.parts ≡ ranked.now.design) }
         ensures opened { IfOk result (λ s. IsOpened ranked.now.design (stands_for opening.now) (valuation s)) }
     {
-        let count = ranked.design().nets() as usize;
-        let mut states = vec![in alloc; false; count]?;
-        let mut nets = vec![in alloc; false; count]?;
-        fill_opened(ranked, opening, &mut states, &mut nets);
+        let design = ranked.design();
+        design.stands();
+        let bases = bases_of(alloc, design)?;
+        let mut words = vec![in alloc; 0; bases[design.mems() as usize]]?;
+        let mut states = vec![in alloc; false; design.nets() as usize]?;
+        let mut nets = vec![in alloc; false; design.nets() as usize]?;
+        fill_opened(ranked, &bases, opening, &mut states, &mut nets, &mut words);
         Ok(Settled {
             ranked,
             nets,
             next: states,
+            bases,
+            words,
         })
     }
 
@@ -71,7 +84,7 @@ impl<'a> Settled<'a> {
         ensures design { self.new.parts ≡ self.old.parts }
         ensures after { IsAfter self.old.parts (valuation self.old) values.now (valuation self.new) }
     {
-        fill_next(self.ranked, values, self.nets.as_slice(), &mut self.next);
+        fill_next(self.ranked, &self.bases, values, self.nets.as_slice(), &mut self.next, &mut self.words);
         mem::swap(&mut self.nets, &mut self.next);
     }
 
@@ -82,33 +95,44 @@ impl<'a> Settled<'a> {
     {
         self.nets[net.place() as usize]
     }
+
+    /// The word of a memory at an address.
+    pub fn word(&self, mem: MemId, address: u32) -> u128
+        requires { IsAddress self.now.parts mem.place address }
+        ensures { result ≡ (valuation self.now).word mem.place address }
+    {
+        self.words[self.bases[mem.place() as usize] + address as usize]
+    }
 }
 
-/// Fills a table of zeros with the opened valuation, and another one with the states on the way there.
-fn fill_opened(ranked: &Ranked<'_>, opening: &Opening, states: &mut [bool], nets: &mut [bool])
-    requires no_memory { HasNoMemory ranked.now.design }
+/// Fills tables of zeros with the opened valuation, and one more with the states on the way there.
+fn fill_opened(ranked: &Ranked<'_>, bases: &[usize], opening: &Opening, states: &mut [bool], nets: &mut [bool], words: &mut [u128])
+    requires bases { AreBases ranked.now.design bases.now }
     requires opening { Opens ranked.now.design opening.now }
     requires states { states.old ≡ replicate (net_count ranked.now.design) false }
     requires nets { nets.old ≡ replicate (net_count ranked.now.design) false }
-    ensures { IsOpened ranked.now.design (stands_for opening.now) (shown nets.new) }
+    requires words { words.old ≡ replicate (word_count ranked.now.design) 0 }
+    ensures { IsOpened ranked.now.design (stands_for opening.now) (holding ranked.now.design nets.new words.new) }
 {
     let design = ranked.design();
     design.stands();
     set_states(design, opening.ones.as_slice(), states);
     put_values(opening.inputs.as_slice(), nets);
-    run_pass(ranked, Turn::Opening, states, nets);
+    put_words(design, bases, opening.words.as_slice(), words);
+    run_pass(ranked, bases, Turn::Opening, states, nets, words);
 }
 
-/// Fills a table with the valuation after an event that gives these values.
-fn fill_next(ranked: &Ranked<'_>, values: &PortValues, old: &[bool], new: &mut [bool])
-    requires no_memory { HasNoMemory ranked.now.design }
+/// Fills tables with the valuation after an event that gives these values.
+fn fill_next(ranked: &Ranked<'_>, bases: &[usize], values: &PortValues, old: &[bool], new: &mut [bool], words: &mut [u128])
+    requires bases { AreBases ranked.now.design bases.now }
     requires inputs { AreInputs ranked.now.design values.now }
     requires old_size { length old.now ≡ net_count ranked.now.design }
     requires new_size { length new.old ≡ net_count ranked.now.design }
-    ensures { IsAfter ranked.now.design (shown old.now) values.now (shown new.new) }
+    requires room { length words.old ≡ word_count ranked.now.design }
+    ensures { IsAfter ranked.now.design (holding ranked.now.design old.now words.old) values.now (holding ranked.now.design new.new words.new) }
 {
     ranked.design().stands();
     new.copy_from_slice(old);
     put_values(values.as_slice(), new);
-    run_pass(ranked, Turn::Event, old, new);
+    run_pass(ranked, bases, Turn::Event, old, new, words);
 }
