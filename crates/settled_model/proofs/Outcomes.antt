@@ -1,12 +1,14 @@
 -- What a pass gives is the opened valuation, or the one after an event.
-use Rattle.std.proofs.Common.{◌≡◌, ◌<◌, ◌≤◌, ℕ, zero, suc, Bool, true, false, List, [], ◌∷◌, replicate, length, get_or, refl, sym, ap, subst, ◌∙◌, arith}
-use Rattle.std.specs.Prelude.{◌==◌, ◌||◌, ◌&&◌, Option, Some, None, IfSome, IfNone, slice_get, unwrap_or, Contains}
+use Rattle.std.proofs.Common.{◌≡◌, ◌<◌, ◌≤◌, ◌+◌, ◌^◌, ℕ, zero, suc, Bool, true, false, List, [], ◌∷◌, replicate, length, get_or, refl, sym, ap, subst, ◌∙◌, arith}
+use Rattle.std.specs.Prelude.{◌==◌, ◌||◌, ◌&&◌, Option, Some, None, IfSome, IfNone, slice_get, slice_index, unwrap_or, Contains}
 use Rattle.std.specs.List.{list_any, list_all}
-use Rattle.std.proofs.lemmas.Option.{slice_get-get_or}
+use Rattle.std.proofs.lemmas.Option.{slice_get-get_or, same_Some}
 use Rattle.id_arena.specs.declared.keys.NetId.{NetId}
 use Rattle.id_arena.specs.declared.keys.ElemId.{ElemId}
 use Rattle.design_core.specs.declared.element.Element.{Element}
 use Rattle.design_core.specs.declared.element.Element.TheVariants as element
+use Rattle.design_core.specs.declared.element.Memory.{Memory}
+use Rattle.design_core.specs.declared.element.WritePort.{WritePort}
 use Rattle.design_core.specs.declared.element.Driver.{Driver}
 use Rattle.design_core.specs.declared.element.Driver.TheVariants.{Elem}
 use Rattle.design_core.specs.declared.parts.Parts.{Parts}
@@ -15,7 +17,8 @@ use Rattle.design_core.specs.Design.{IsDesign, net_count, driver, drives, includ
 use Rattle.design_core.specs.Faults.{is_there}
 use Rattle.design_core.specs.Valuation.{Valuation, forced, passed}
 use Rattle.design_core.specs.Settled.{ElementHolds, HasState, IsOpened}
-use Rattle.design_core.specs.Event.{given, ElementFollows, IsAfter}
+use Rattle.design_core.specs.Limits.{word_count}
+use Rattle.design_core.specs.Event.{given, written, ElementFollows, IsAfter}
 use Rattle.history_law.proofs.Lists.{no, any_at}
 use Rattle.history_law.proofs.Naming.{same_number, number_same, element_is_driver, input_bit_is_input}
 use Rattle.history_law.proofs.Following.{shown as held}
@@ -23,11 +26,12 @@ use Rattle.history_law.proofs.Equations.{Equations, ElementShows, equations_from
 use Rattle.settled_model.specs.declared.turn.Turn.{Turn}
 use Rattle.settled_model.specs.declared.turn.Turn.TheVariants.{Opening, Event}
 use Rattle.settled_model.specs.declared.opening.Opening.{Opening as Start}
-use Rattle.settled_model.specs.Held.{shown, HasNoMemory}
-use Rattle.settled_model.specs.Opening.{AreInputs, is_among, stands_for}
-use Rattle.settled_model.specs.Passing.{kept, is_state, is_state_at, AreRenewed, HasPut, HasSet}
+use Rattle.settled_model.specs.declared.opening.OpenWord.{OpenWord}
+use Rattle.settled_model.specs.Held.{shown, holding, first_word, word_in}
+use Rattle.settled_model.specs.Opening.{AreInputs, is_among, word_given, stands_for}
+use Rattle.settled_model.specs.Passing.{kept, is_state, is_state_at, AreRenewed, HasPut, HasSet, HasWords}
 use Rattle.settled_model.proofs.Ranges.{there}
-use Rattle.settled_model.proofs.Passes.{beginning, no_memory, fixed}
+use Rattle.settled_model.proofs.Passes.{beginning, fixed}
 
 -- ## Nets that are given values are there
 
@@ -62,6 +66,11 @@ pub put_in : (values slice : List PortBit) (old copy new : List Bool) → slice 
 put_in values slice old copy new same like h =
     subst (λ vs. HasPut vs old new) same (subst (λ (xs : List Bool). HasPut slice xs new) like h)
 
+pub words_in : (p q : Parts) (given slice : List OpenWord) (old copy new : List ℕ) → q ≡ p → slice ≡ given → copy ≡ old → HasWords q slice copy new → HasWords p given old new
+words_in p q given slice old copy new part same like h =
+    subst (λ (x : Parts). HasWords x given old new) part
+    (subst (λ (ws : List OpenWord). HasWords q ws old new) same (subst (λ (xs : List ℕ). HasWords q slice xs new) like h))
+
 pub set_in : (p q : Parts) (ones slice : List ElemId) (old copy new : List Bool) → q ≡ p → slice ≡ ones → copy ≡ old → HasSet q slice copy new → HasSet p ones old new
 set_in p q ones slice old copy new part same like h =
     subst (λ (x : Parts). HasSet x ones old new) part
@@ -69,28 +78,38 @@ set_in p q ones slice old copy new part same like h =
 
 -- ## The equations that a pass solves
 
-module _ (p : Parts) (d : IsDesign p) (none : HasNoMemory p) (turn : Turn) (old start new : List Bool) (r : AreRenewed p turn old start new) where
-  pub solved : Equations p (beginning turn (shown old)) (shown start).net (shown new)
+module _ (p : Parts) (d : IsDesign p) (turn : Turn) (old start : List Bool) (begun : List ℕ) (new : List Bool) (words : List ℕ) (r : AreRenewed p turn old start begun new words) where
+  pub solved : Equations p (beginning turn (shown old) (word_in p words)) (shown start).net (holding p new words)
   solved =
-      equations_from p (beginning turn (shown old)) (shown start).net (shown new) d (fixed p none turn old start new r)
+      equations_from p (beginning turn (shown old) (word_in p words)) (shown start).net (holding p new words) d (fixed p turn old start begun new words r)
 
 -- ## After an event
 
-follows : (v w : Valuation) (e : Element) → ElementShows (kept Event v w e) w e → ElementFollows v w e
-follows v w (element.Gate op inputs output) h = h
-follows v w (element.Flop f) h = h
-follows v w (element.Latch l) h = h
-follows v w (element.Memory m) h = tt
+module _ (p : Parts) (old : List Bool) (begun : List ℕ) where
+  follows : (w : Valuation) (e : Element) → ElementShows (kept Event (shown old) w e) w e → ElementFollows (holding p old begun) w e
+  follows w (element.Gate op inputs output) h = h
+  follows w (element.Flop f) h = h
+  follows w (element.Latch l) h = h
+  follows w (element.Memory m) h = tt
 
-pub after_event : (p : Parts) (values : List PortBit) (old start new : List Bool) → IsDesign p → HasNoMemory p → HasPut values old start → AreRenewed p Event old start new → IsAfter p (shown old) values (shown new)
-after_event p values old start new d none put r =
-    let h : Equations p (beginning Event (shown old)) (shown start).net (shown new) = solved p d none Event old start new r in
+  -- ports write the same where words are told too
+  written_told : (new : List Bool) (words : List ℕ) (ports : List WritePort) (a x : ℕ) → written (shown old) (shown new) ports a x ≡ written (holding p old begun) (holding p new words) ports a x
+  written_told new words [] a x = refl
+  written_told new words (port ∷ ports) a x = written_told new words ports a _
+
+pub after_event : (p : Parts) (values : List PortBit) (old start : List Bool) (begun : List ℕ) (new : List Bool) (words : List ℕ) → IsDesign p → HasPut values old start → AreRenewed p Event old start begun new words
+    → IsAfter p (holding p old begun) values (holding p new words)
+after_event p values old start begun new words d put r =
+    let h : Equations p (beginning Event (shown old) (word_in p words)) (shown start).net (holding p new words) = solved p d Event old start begun new words r in
     record {
       constants = h.constants;
       inputs = λ n small e. h.inputs n small e ∙ put.nets n;
-      elements = λ k e at. follows (shown old) (shown new) e (h.elements k e at);
-      words = λ m a memory at address. absurd (no_memory p none m memory at);
-      reads = λ m r b memory port n at in_port in_bit. absurd (no_memory p none m memory at);
+      elements = λ k e at. follows p old begun (holding p new words) e (h.elements k e at);
+      words = λ m a memory at address.
+          let same : address.0 ≡ memory = same_Some address.0 memory (sym address.1 ∙ at) in
+          let low : a < 2 ^ memory.address_bits = subst (λ (x : Memory). a < 2 ^ x.address_bits) same address.2 in
+          r.words m a memory at low ∙ written_told p old begun new words memory.writes a (word_in p begun m a);
+      reads = h.reads;
     }
 
 -- ## Opened
@@ -153,29 +172,40 @@ holds state w (element.Flop f) h = held (forced f.clear f.preset w) (w.net f.q.p
 holds state w (element.Latch l) h = held (passed l w) (w.net l.q.place) state h
 holds state w (element.Memory m) h = tt
 
-module _ (p : Parts) (o : Start) (states start new : List Bool) (d : IsDesign p) (none : HasNoMemory p)
+no_word : (count n : ℕ) → slice_index (replicate count 0) n ≡ 0
+no_word zero n = refl
+no_word (suc count) zero = refl
+no_word (suc count) (suc n) = no_word count n
+
+module _ (p : Parts) (o : Start) (states start : List Bool) (begun : List ℕ) (new : List Bool) (words : List ℕ) (d : IsDesign p)
     (set : HasSet p o.ones (replicate (net_count p) false) states) (put : HasPut o.inputs (replicate (net_count p) false) start)
-    (r : AreRenewed p Opening states start new) where
-  has_state : (k : ℕ) (e : Element) → slice_get p.elements k ≡ Some e → ElementShows (kept Opening (shown states) (shown new) e) (shown new) e → HasState (shown new) (is_among o.ones k) e
+    (told : HasWords p o.words (replicate (word_count p) 0) begun) (r : AreRenewed p Opening states start begun new words) where
+  abbrev w : Valuation
+  w = holding p new words
+
+  has_state : (k : ℕ) (e : Element) → slice_get p.elements k ≡ Some e → ElementShows (kept Opening (shown states) w e) w e → HasState w (is_among o.ones k) e
   has_state k (element.Gate op inputs output) at h = tt
   has_state k (element.Flop f) at h =
-      free (forced f.clear f.preset (shown new)) _ _
-      (h ∙ ap (unwrap_or (forced f.clear f.preset (shown new))) (state_is p d k f.q.place (element.Flop f) at (same_number f.q.place f.q.place refl) o.ones states (net_count p) set))
+      free (forced f.clear f.preset w) _ _
+      (h ∙ ap (unwrap_or (forced f.clear f.preset w)) (state_is p d k f.q.place (element.Flop f) at (same_number f.q.place f.q.place refl) o.ones states (net_count p) set))
   has_state k (element.Latch l) at h =
-      free (passed l (shown new)) _ _
-      (h ∙ ap (unwrap_or (passed l (shown new))) (state_is p d k l.q.place (element.Latch l) at (same_number l.q.place l.q.place refl) o.ones states (net_count p) set))
+      free (passed l w) _ _
+      (h ∙ ap (unwrap_or (passed l w)) (state_is p d k l.q.place (element.Latch l) at (same_number l.q.place l.q.place refl) o.ones states (net_count p) set))
   has_state k (element.Memory m) at h = tt
 
-  pub opened : IsOpened p (stands_for o) (shown new)
+  pub opened : IsOpened p (stands_for o) w
   opened =
-      let h : Equations p (beginning Opening (shown states)) (shown start).net (shown new) = solved p d none Opening states start new r in
+      let h : Equations p (beginning Opening (shown states) (word_in p words)) (shown start).net w = solved p d Opening states start begun new words r in
       record {
         settled = record {
           constants = h.constants;
-          elements = λ k e at. holds (kept Opening (shown states) (shown new) e) (shown new) e (h.elements k e at);
-          reads = λ m r b memory port n at in_port in_bit. absurd (no_memory p none m memory at);
+          elements = λ k e at. holds (kept Opening (shown states) w e) w e (h.elements k e at);
+          reads = h.reads;
         };
         inputs = λ n small e. h.inputs n small e ∙ put.nets n ∙ ap (unwrap_or (given o.inputs n)) (blank (net_count p) n);
-        words = λ m a address. absurd (no_memory p none m address.0 address.1);
+        words = λ m a address.
+            r.words m a address.0 address.1 address.2
+            ∙ told.words m a address
+            ∙ ap (unwrap_or (word_given o.words m a)) (no_word (word_count p) (first_word p m + a));
         states = λ k e at. has_state k e at (h.elements k e at);
       }

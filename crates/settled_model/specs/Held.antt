@@ -37,7 +37,3 @@ pub record Held : Type 0 where
 
 abbrev pub valuation : Held → Valuation
 valuation h = holding h.parts h.nets h.words
-
--- the designs that are settled so far
-abbrev pub HasNoMemory : Parts → Type 0
-HasNoMemory p = p.memories ≡ []

@@ -35,6 +35,15 @@ pub(crate) fn bases_of(alloc: Global, design: &Design) -> Result<Vec<usize>, NoM
     Ok(bases)
 }
 
+/// The word of a memory at an address.
+pub(crate) fn word_at(bases: &[usize], words: &[u128], mem: MemId, address: u32) -> u128
+    requires base { mem.place < length bases.now }
+    requires room { slice_index bases.now mem.place + address < length words.now }
+    ensures { result ≡ slice_index words.now (slice_index bases.now mem.place + address) }
+{
+    words[bases[mem.place() as usize] + address as usize]
+}
+
 /// The number that some nets show, from bit 0.
 fn number_shown(bits: &[NetId], nets: &[bool]) -> u128
     requires there { IsTrue (are_there (length nets.now) bits.now) }

@@ -9,7 +9,7 @@ ghost use Rattle.design_core.specs.Valuation.{IsAddress};
 ghost use Rattle.settled_model.specs.Held.{AreBases, holding, valuation};
 ghost use Rattle.settled_model.specs.Opening.{AreInputs, Opens, stands_for};
 
-use crate::memory::{bases_of, put_words};
+use crate::memory::{bases_of, put_words, word_at};
 use crate::opening::Opening;
 use crate::pass::run_pass;
 use crate::ranked::Ranked;
@@ -101,7 +101,7 @@ impl<'a> Settled<'a> {
         requires { IsAddress self.now.parts mem.place address }
         ensures { result ≡ (valuation self.now).word mem.place address }
     {
-        self.words[self.bases[mem.place() as usize] + address as usize]
+        word_at(&self.bases, &self.words, mem, address)
     }
 }
 

@@ -11,6 +11,6 @@ put_values-requires c =
 
 pub returns : goal.returns
 returns c =
-    after_event c.args.ranked.now.design c.args.values.now c.args.old.now c.put_values.new.nets c.run_pass.new.new (subst IsDesign c.design.ensures c.stands.ensures.design) c.requires.no_memory
+    after_event c.args.ranked.now.design c.args.values.now c.args.old.now c.put_values.new.nets c.args.words.now c.run_pass.new.new c.run_pass.new.words (subst IsDesign c.design.ensures c.stands.ensures.design)
     (put_in c.args.values.now c.as_slice.result.now c.args.old.now c.copy_from_slice.new.self c.put_values.new.nets c.as_slice.ensures c.copy_from_slice.ensures.after c.put_values.ensures)
     c.run_pass.ensures
