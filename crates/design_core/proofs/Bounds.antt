@@ -42,21 +42,17 @@ small memory fits =
 pub light : (a w : ℕ) → a ≤ 16 → w ≤ 128 → 2 ^ a * w ≤ 65536 * 128
 light a w few narrow = mul-le (2 ^ a) w 65536 128 (pow_mono few) narrow
 
--- a shift of one within 64 bits is the power
-pub shifted : (a : ℕ) → a ≤ 16 → 1 * 2 ^ a % 18446744073709551616 ≡ 2 ^ a
-shifted a few =
-    let words : 2 ^ a ≤ 65536 = pow_mono few in
-    omega arith
+pub shift_fits : (memory : Memory) → memory_fits memory ≡ true → (memory.address_bits ≤ 63) × (2 ^ memory.address_bits ≤ 65536)
+shift_fits memory fits =
+    let sizes = small memory fits in
+    (omega arith, pow_mono {i = memory.address_bits} {j = 16} sizes.address_bits)
 
 -- the weight of a memory, as it is computed
-pub weight_fits : (memory : Memory) (w : ℕ) → memory_fits memory ≡ true → w ≡ memory.width → 1 * 2 ^ memory.address_bits % 18446744073709551616 * w < 2 ^ 64
-weight_fits memory w fits same =
+pub weight_fits : (memory : Memory) (words w : ℕ) → memory_fits memory ≡ true → words ≡ 2 ^ memory.address_bits → w ≡ memory.width → words * w < 2 ^ 64
+weight_fits memory words w fits same same-2 =
     let sizes = small memory fits in
     let whole = light memory.address_bits memory.width sizes.address_bits sizes.width in
-    rw (shifted memory.address_bits sizes.address_bits, same) (omega arith)
-
-pub weight_is : (memory : Memory) (w : ℕ) → memory_fits memory ≡ true → w ≡ memory.width → memory_weight memory ≡ 1 * 2 ^ memory.address_bits % 18446744073709551616 * w
-weight_is memory w fits same = rw (shifted memory.address_bits (small memory fits).address_bits, same) refl
+    rw (same, same-2) (omega arith)
 
 -- an element that is a memory is one of the design's memories
 pub memory_there : (p : Parts) (e : Element) (m : MemId) → element_fits p e ≡ true → e ≡ element.Memory m → m.place < length p.memories

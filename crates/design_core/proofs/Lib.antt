@@ -1,2 +1,13 @@
 pub mod Bounds
 pub mod Filling
+pub mod Powers
+pub mod Owning
+pub mod Lowest
+pub mod Outwards
+pub mod Counting
+pub mod Entries
+pub mod Sole
+pub mod Ranges
+pub mod Undriven
+pub mod Goodness
+pub mod Singles

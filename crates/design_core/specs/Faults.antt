@@ -1,7 +1,8 @@
 -- What keeps parts from being a design, and which of several faults is told.
 -- The rule is told in docs/RULES.md, "Building a design".
-use Rattle.std.specs.Prelude.{◌≡◌, ◌<◌, ◌≤◌, ◌^◌, ◌&&◌, ◌==◌, ℕ, nat_le, nat_lt, Bool, true, false, Option, Some, None, List, [], ◌∷◌, take, length, count_by, slice_get, Result, Ok, Err, IsTrue}
+use Rattle.std.specs.Prelude.{◌≡◌, ◌<◌, ◌≤◌, ◌^◌, ◌&&◌, ◌==◌, ℕ, nat_le, nat_lt, Bool, true, false, Option, Some, None, List, [], ◌∷◌, take, length, get_or, is_none, count_by, slice_get, slice_set, Result, Ok, Err, IsTrue}
 use Rattle.std.specs.List.{list_all, enumerate_from}
+use Rattle.id_arena.specs.declared.keys.ElemId.{ElemId}
 use Rattle.id_arena.specs.declared.keys.NetId.{NetId}
 use Rattle.design_core.specs.declared.operation.Op.{Op}
 use Rattle.design_core.specs.declared.operation.Op.TheVariants.{Buf, Not, Table}
@@ -17,7 +18,7 @@ use Rattle.design_core.specs.declared.fault.DesignFault.TheVariants as fault
 use Rattle.design_core.specs.Design.{net_count, driver_count, nets_read, includes, element_reads, write_reads, memory_fits, is_memory}
 use Rattle.design_core.specs.Limits.{inputs_within, word_count, IsWithin}
 use Rattle.design_core.specs.Names.{IsNetText}
-use Rattle.design_core.specs.Tables.{IsSound}
+use Rattle.design_core.specs.Tables.{IsMemoryAt, IsSound}
 
 -- whether a net is there, among so many
 abbrev pub is_there : ℕ → NetId → Bool
@@ -77,18 +78,45 @@ abbrev pub parent_earlier : ℕ → Option ℕ → Bool
 parent_earlier s None = true
 parent_earlier s (Some parent) = nat_lt parent s
 
--- Whether what is not an element's own is good: there are the two constants, each element has a path,
--- the nets of ports and the scopes of nets are there, scopes stand in earlier ones, and each memory has
--- an element.
-abbrev pub rest_good : Parts → Bool
-rest_good p =
+-- Whether what stands around the elements is good: there are the two constants, each element has a path,
+-- the nets of ports and the scopes of nets are there, and scopes stand in earlier ones.
+abbrev pub around_good : Parts → Bool
+around_good p =
     nat_le 2 (net_count p)
     && (length p.paths == length p.elements)
     && ports_there (net_count p) p.inputs
     && ports_there (net_count p) p.outputs
     && list_all (λ name. nat_lt name.scope (length p.scopes)) p.net_names
     && list_all (λ (s, scope). parent_earlier s scope.parent) (enumerate_from 0 p.scopes)
-    && list_all (λ (m, memory). nat_lt 0 (count_by (is_memory m) p.elements)) (enumerate_from 0 p.memories)
+
+-- whether all but the elements is good: what stands around them, and each memory has an element
+abbrev pub rest_good : Parts → Bool
+rest_good p =
+    around_good p && list_all (λ (m, memory). nat_lt 0 (count_by (is_memory m) p.elements)) (enumerate_from 0 p.memories)
+
+-- what is known, after some elements, of the element that is a memory
+abbrev pub IsOwned : Parts → ℕ → ℕ → Option ElemId → Type 0
+IsOwned p k m None = count_by (is_memory m) (take k p.elements) ≡ 0
+IsOwned p k m (Some e) = (count_by (is_memory m) (take k p.elements) ≡ 1) × IsMemoryAt p m e
+
+-- a table has for each memory the one element among the first ones, so many, that is the memory
+pub record AreOwned (p : Parts) (k : ℕ) (owners : List (Option ElemId)) : Type 0 where
+  pub size : length owners ≡ length p.memories
+  pub each : (m : ℕ) (owner : Option ElemId) → slice_get owners m ≡ Some owner → IsOwned p k m owner
+
+-- whether a table has no element yet for a memory
+abbrev pub is_free : List (Option ElemId) → ℕ → Bool
+is_free owners m = is_none (get_or owners m None)
+
+-- whether an element that is a memory is one of so many
+abbrev pub claims_within : ℕ → Element → Bool
+claims_within memories (element.Memory m) = nat_lt m.place memories
+claims_within memories other = true
+
+-- the table after one more element
+abbrev pub claimed : ElemId → Element → List (Option ElemId) → List (Option ElemId)
+claimed e (element.Memory m) owners = slice_set owners m.place (Some e)
+claimed e other owners = owners
 
 -- The places of the parts: that of each element, and one after the last, which stands for all the rest.
 abbrev pub thing_good : Parts → ℕ → Option Element → Bool
@@ -114,6 +142,12 @@ pub record AreThere (p : Parts) : Type 0 where
 pub record IsLeastBad (p : Parts) (k : ℕ) : Type 0 where
   pub here : place_good p k ≡ false
   pub earlier : (j : ℕ) → j < k → place_good p j ≡ true
+
+-- a fault of elements alone
+abbrev pub TellsBad : Parts → DesignFault → Type 0
+TellsBad p (fault.BadNet elem) = IsLeastBad p elem.place
+TellsBad p (fault.NoMemory) = Unit {0}
+TellsBad p other = ⊥
 
 -- whether the parts are within a limit; those on width, depth and instances are asked before
 abbrev pub within : Parts → LimitKind → Bool
@@ -151,6 +185,21 @@ is_undriven p n = includes (nets_read p) n && (driver_count p n == 0)
 pub record IsLeastUndriven (p : Parts) (n : ℕ) : Type 0 where
   pub here : is_undriven p n ≡ true
   pub earlier : (m : ℕ) → m < n → is_undriven p m ≡ false
+
+-- each net that is read has a driver
+abbrev pub IsDriven : Parts → Type 0
+IsDriven p = (n : ℕ) → is_undriven p n ≡ false
+
+-- each memory is one element
+abbrev pub AreSingle : Parts → Type 0
+AreSingle p = (m : ℕ) → m < length p.memories → count_by (is_memory m) p.elements ≡ 1
+
+-- a fault of drivers alone
+abbrev pub TellsDrivers : Parts → DesignFault → Type 0
+TellsDrivers p (fault.TwoDrivers net name) = IsLeastTwice p net.place × IsNetText p net.place name
+TellsDrivers p (fault.Undriven net name) = IsOnce p × IsLeastUndriven p net.place × IsNetText p net.place name
+TellsDrivers p (fault.NoMemory) = Unit {0}
+TellsDrivers p other = ⊥
 
 pub record IsTwice (p : Parts) (n : ℕ) (name : List ℕ) : Type 0 where
   pub good : AreGood p

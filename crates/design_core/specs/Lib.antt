@@ -13,3 +13,5 @@ pub mod Tables
 pub mod Weight
 pub mod Faults
 pub mod Drives
+pub mod Reads
+pub mod Trails

@@ -35,8 +35,11 @@ abbrev pub path_of : List (List ℕ) → List ℕ
 path_of trail = join_with_byte 47 (map escaped (reverse trail))
 
 -- this text is the path of a scope
+abbrev pub IsPathIn : List Scope → ℕ → List ℕ → Type 0
+IsPathIn scopes s text = (trail : List (List ℕ)) × IsTrail scopes s trail × (text ≡ path_of trail)
+
 abbrev pub IsPath : Parts → ℕ → List ℕ → Type 0
-IsPath p s text = (trail : List (List ℕ)) × IsTrail p.scopes s trail × (text ≡ path_of trail)
+IsPath p s text = IsPathIn p.scopes s text
 
 -- this text is the path of an element
 abbrev pub IsElementPath : Parts → ℕ → List ℕ → Type 0

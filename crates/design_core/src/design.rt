@@ -1,10 +1,13 @@
 //! The design as one value.
 
-ghost use Rattle.std.specs.Prelude.{◌≡◌, ◌<◌, ◌≤◌, IsTrue, Some, length, option_map, slice_get};
+ghost use Rattle.std.specs.Prelude.{◌≡◌, ◌<◌, ◌≤◌, IfOk, IsTrue, Some, length, option_map, slice_get};
 
+use crate::limits::word_number;
+use crate::names::{element_path, net_text};
 use crate::{Driver, Element, Memory, Parts, Port};
-use emu_io::List;
+use emu_io::{List, NoMemory, Text};
 use id_arena::{ElemId, Key, MemId, NetId};
+use std::alloc::Global;
 use std::marker::Model;
 
 /// A design that stands: each net has at most one driver, each net that is read has one, every name
@@ -36,9 +39,23 @@ impl Model for Design {
 impl Design {
     ghost use Rattle.design_core.specs.Design.{IsDesign, driver, element_fits, memory_fits, net_count};
     ghost use Rattle.design_core.specs.Limits.{IsCountable, IsWithin};
-    ghost use Rattle.design_core.specs.Names.{IsNamed};
-    ghost use Rattle.design_core.specs.Tables.{IsMemoryAt};
+    ghost use Rattle.design_core.specs.Names.{IsElementPath, IsNamed, IsNetText};
+    ghost use Rattle.design_core.specs.Tables.{AreDrivers, AreOwners, IsMemoryAt, IsSound};
     ghost use Rattle.design_core.specs.Weight.{memory_weight, weight};
+
+    /// The design of sound parts, with its tables. Takes no memory.
+    pub(crate) fn from_parts(parts: Parts, drivers: Vec<Driver>, owners: Vec<ElemId>) -> Design
+        requires sound { IsSound parts }
+        requires drivers { AreDrivers parts drivers.items }
+        requires owners { AreOwners parts owners.items }
+        ensures { result ≡ parts }
+    {
+        Design {
+            parts,
+            drivers,
+            owners,
+        }
+    }
 
     /// What holds of every design, for its callers.
     pub fn stands(&self)
@@ -142,6 +159,22 @@ impl Design {
         ensures { option_map memory_weight (slice_get self.now.memories id.place) ≡ Some result }
     {
         let memory = self.mem(id);
-        (1 << memory.address_bits) * u64::from(memory.width)
+        word_number(memory) * u64::from(memory.width)
+    }
+
+    /// The name of a net, with the path of its scope before it.
+    pub fn net_name(&self, alloc: Global, id: NetId) -> Result<Text, NoMemory>
+        requires { id.place < net_count self.now }
+        ensures { IfOk result (IsNetText self.now id.place) }
+    {
+        net_text(alloc, &self.parts, id)
+    }
+
+    /// The path of an element, which is empty where it stands in the top itself.
+    pub fn path(&self, alloc: Global, id: ElemId) -> Result<Text, NoMemory>
+        requires { id.place < length self.now.elements }
+        ensures { IfOk result (IsElementPath self.now id.place) }
+    {
+        element_path(alloc, &self.parts, id)
     }
 }

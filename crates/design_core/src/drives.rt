@@ -7,6 +7,7 @@ ghost use Rattle.design_core.specs.declared.element.Driver.TheVariants.{Input};
 ghost use Rattle.design_core.specs.Design.{net_count};
 ghost use Rattle.design_core.specs.Limits.{IsCountable};
 ghost use Rattle.design_core.specs.Drives.{AreTold, TellsFault, drive_of, drives_of, element_drives, elements_drives, input_drives, memories_drives, memory_drives, once_more, port_drives, put, put_all, the_driver};
+ghost use Rattle.design_core.specs.Reads.{is_never};
 ghost use Rattle.design_core.specs.Faults.{AreThere, are_there, element_outputs, is_there, memory_good, ports_there};
 
 use crate::{Driver, Element, Memory, Parts, Port, ReadPort};
@@ -53,6 +54,16 @@ impl From<AllocFailed<Driver>> for TableFault {
 }
 
 impl Driven {
+    /// Whether nothing drives the net.
+    pub(crate) fn is_never(self) -> bool
+        ensures { result ≡ is_never self }
+    {
+        match self {
+            Driven::Never => true,
+            Driven::Once(_) | Driven::Twice => false,
+        }
+    }
+
     /// The driver; None where there are two. A net that nothing drives is the constant 0.
     fn driver(self) -> Option<Driver>
         ensures { result ≡ the_driver self }

@@ -25,22 +25,12 @@ pub enum LimitKind {
 pub enum DesignFault {
     /// An element names something that is not there, or is of a shape that it can't have. With the
     /// number of elements as `elem`, the fault is in the lists around the elements.
-    BadNet {
-        elem: ElemId,
-    },
-    Limit {
-        which: LimitKind,
-    },
+    BadNet { elem: ElemId },
+    Limit { which: LimitKind },
     /// More than one thing drives a net.
-    TwoDrivers {
-        net: NetId,
-        name: Text,
-    },
+    TwoDrivers { net: NetId, name: Text },
     /// A net is read, and nothing drives it.
-    Undriven {
-        net: NetId,
-        name: Text,
-    },
+    Undriven { net: NetId, name: Text },
     NoMemory,
 }
 

@@ -6,14 +6,20 @@
 //! speaks of these alone.
 #![tactic(auto)]
 
+mod build;
 mod design;
 mod drives;
 mod element;
 mod fault;
+mod good;
+mod limits;
+mod names;
 mod node;
 mod one_gate;
 mod operation;
+mod owners;
 mod parts;
+mod reads;
 mod values;
 
 pub use design::Design;

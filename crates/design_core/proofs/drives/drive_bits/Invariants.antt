@@ -8,5 +8,5 @@ use Rattle.design_core.proofs.drives.drive_bits.Given as goal
 abbrev pub invariant-bits : goal.invariant-bits
 invariant-bits l = record {
   rest : put_all (map (λ (b, n). drive_of (Read l.mem l.port b) n) (enumerate_from l.bit (drop l.bit l.bits))) l.table ≡ put_all (map (λ (b, n). drive_of (Read l.mem l.port b) n) (enumerate_from 0 l.bits)) l.initial.table;
-  size : length l.table ≡ length l.initial.table
+  size : length l.table ≡ length l.initial.table;
 }

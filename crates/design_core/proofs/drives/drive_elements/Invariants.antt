@@ -8,5 +8,5 @@ use Rattle.design_core.proofs.drives.drive_elements.Given as goal
 abbrev pub invariant-elements : goal.invariant-elements
 invariant-elements l = record {
   rest : put_all (flat_map (λ (j, e). element_drives j e) (enumerate_from l.place (drop l.place l.elements))) l.table ≡ put_all (flat_map (λ (j, e). element_drives j e) (enumerate_from 0 l.elements)) l.initial.table;
-  size : length l.table ≡ length l.initial.table
+  size : length l.table ≡ length l.initial.table;
 }

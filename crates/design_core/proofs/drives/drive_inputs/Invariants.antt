@@ -7,5 +7,5 @@ use Rattle.design_core.proofs.drives.drive_inputs.Given as goal
 abbrev pub invariant-nets : goal.invariant-nets
 invariant-nets l = record {
   rest : put_all (map (drive_of Input) (drop l.net-index l.nets)) l.table ≡ put_all (map (drive_of Input) l.nets) l.initial.table;
-  size : length l.table ≡ length l.initial.table
+  size : length l.table ≡ length l.initial.table;
 }

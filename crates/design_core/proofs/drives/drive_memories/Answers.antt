@@ -10,5 +10,5 @@ memories-preserved c =
     let more = nested_from (λ (x : ℕ × Memory). memory_drives x.0 x.1) c.args.memories.now c.memories.place c.index-memories-place.result c.memories.table c.drive_memory.new.table c.memories-test.true c.index-memories-place.is done in
     record {
       rest = more ∙ c.memories.invariant.rest;
-      size = c.drive_memory.auto.table ∙ c.memories.invariant.size
+      size = c.drive_memory.auto.table ∙ c.memories.invariant.size;
     }

@@ -10,5 +10,5 @@ ports-preserved c =
     let more = nested_from (λ (x : ℕ × ReadPort). port_drives c.args.mem.place x.0 x.1.bits) c.as_slice-reads.result.now c.ports.port c.index-reads-port.result c.ports.table c.drive_bits.new.table c.ports-test.true c.index-reads-port.is done in
     record {
       rest = more ∙ c.ports.invariant.rest;
-      size = c.drive_bits.auto.table ∙ c.ports.invariant.size
+      size = c.drive_bits.auto.table ∙ c.ports.invariant.size;
     }

@@ -10,5 +10,5 @@ ports-preserved c =
     let more = nested (λ port. map (drive_of Input) port.nets) c.args.ports.now c.ports.port-index c.port-item.result c.ports.table c.drive_inputs.new.table c.ports-test.true c.port-item.is done in
     record {
       rest = more ∙ c.ports.invariant.rest;
-      size = c.drive_inputs.auto.table ∙ c.ports.invariant.size
+      size = c.drive_inputs.auto.table ∙ c.ports.invariant.size;
     }

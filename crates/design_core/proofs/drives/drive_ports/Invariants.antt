@@ -8,5 +8,5 @@ use Rattle.design_core.proofs.drives.drive_ports.Given as goal
 abbrev pub invariant-ports : goal.invariant-ports
 invariant-ports l = record {
   rest : put_all (input_drives (drop l.port-index l.ports)) l.table ≡ put_all (input_drives l.ports) l.initial.table;
-  size : length l.table ≡ length l.initial.table
+  size : length l.table ≡ length l.initial.table;
 }

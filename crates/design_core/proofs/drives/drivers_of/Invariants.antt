@@ -6,5 +6,5 @@ use Rattle.design_core.proofs.drives.drivers_of.Given as goal
 abbrev pub invariant-nets : goal.invariant-nets
 invariant-nets l = record {
   made : map Some l.drivers.items ≡ map the_driver (take l.place l.table);
-  earlier : (m : ℕ) → m < l.place → is_some (told_at l.table m) ≡ true
+  earlier : (m : ℕ) → m < l.place → is_some (told_at l.table m) ≡ true;
 }

@@ -1,0 +1,7 @@
+pub mod Counting
+pub mod Numbering
+pub mod Closed
+pub mod Steps
+pub mod Relating
+pub mod Ordered
+pub mod Ends

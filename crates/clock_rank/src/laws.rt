@@ -1,0 +1,17 @@
+//! The laws of orders and cycles.
+ghost use Rattle.clock_rank.specs.Answers.{RanksAreUnique, OrdersAreSorted, CyclesAreUnranked};
+
+/// A node has at most one rank.
+pub fn ranks_are_unique()
+    ensures { RanksAreUnique }
+{}
+
+/// In an order all on which a node depends stands before the node.
+pub fn orders_are_sorted()
+    ensures { OrdersAreSorted }
+{}
+
+/// A design of which a cycle is told is not ranked.
+pub fn cycles_are_unranked()
+    ensures { CyclesAreUnranked }
+{}

@@ -1,0 +1,16 @@
+//! The nodes of a design in order of rank: nets and write nodes, each after all on which it depends.
+//!
+//! `rank` answers Ok exactly where each node has a rank, with the nodes in order of rank and then of
+//! node. Else it answers the one cycle that is found from the least node without rank by going on
+//! each time to the least dependency without rank.
+#![tactic(auto)]
+
+mod fault;
+mod laws;
+mod needs;
+mod numbers;
+mod ranked;
+
+pub use fault::RankFault;
+pub use laws::{cycles_are_unranked, orders_are_sorted, ranks_are_unique};
+pub use ranked::{Ranked, rank};

@@ -1,0 +1,12 @@
+use Rattle.std.proofs.Common.{◌≡◌, ◌∙◌}
+use Rattle.design_core.specs.Design.{element_reads, memory_reads, write_reads}
+use Rattle.design_core.specs.Reads.{lowest}
+use Rattle.design_core.specs.declared.parts.Port.{Port}
+use Rattle.design_core.specs.declared.element.ReadPort.{ReadPort}
+use Rattle.design_core.proofs.Lowest.{one_more}
+use Rattle.design_core.proofs.reads.lowest_ports.Goals as goal
+
+pub ports-preserved : goal.ports-preserved
+ports-preserved c =
+    one_more (λ (port : Port). port.nets) c.args.table.now c.args.ports.now c.ports.port-index c.port-item.result c.ports.found c.lowest-found.result c.ports-test.true c.port-item.is (rw (c.as_slice.ensures) at c.lowest-found.ensures)
+    ∙ c.ports.invariant

@@ -1,0 +1,9 @@
+-- The nets that are left decide with what is found so far.
+use Rattle.std.proofs.Common.{◌≡◌, drop}
+use Rattle.std.specs.List.{flat_map}
+use Rattle.design_core.specs.Design.{element_reads, memory_reads, write_reads}
+use Rattle.design_core.specs.Reads.{lowest}
+use Rattle.design_core.proofs.reads.lowest_ports.Given as goal
+
+abbrev pub invariant-ports : goal.invariant-ports
+invariant-ports l = lowest l.table l.found (flat_map (λ port. port.nets) (drop l.port-index l.ports)) ≡ lowest l.table l.initial.found (flat_map (λ port. port.nets) l.ports)
