@@ -135,3 +135,9 @@ one_base p bases after place next size each here e m low =
 
 pub length_pushed : (xs : List ℕ) (x n : ℕ) → length xs ≡ n → length (xs ++ x ∷ []) ≡ n + 1
 length_pushed xs x n size = length-append xs (x ∷ []) ∙ ap (λ (k : ℕ). k + 1) size
+
+-- a shift of one within 64 bits is the power
+pub shifted : (a : ℕ) → a ≤ 16 → 1 * 2 ^ a % 18446744073709551616 ≡ 2 ^ a
+shifted a few =
+    let words : 2 ^ a ≤ 65536 = pow_mono few in
+    omega arith

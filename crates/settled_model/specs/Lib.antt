@@ -2,4 +2,3 @@ pub mod Held
 pub mod Passing
 pub mod Opening
 pub mod Runs
-pub mod Ranks

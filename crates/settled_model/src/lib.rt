@@ -11,12 +11,10 @@ mod laws;
 mod memory;
 mod opening;
 mod pass;
-mod ranked;
 mod settled;
 mod tables;
 mod turn;
 
 pub use laws::{openings_fit, runs_give_the_history, runs_grow};
 pub use opening::{OpenWord, Opening};
-pub use ranked::Ranked;
 pub use settled::Settled;

@@ -13,8 +13,8 @@ ghost use Rattle.settled_model.specs.Passing.{AreRenewed, HasRenewed, HasStored,
 use crate::elements::element_value;
 use crate::gates::value_of;
 use crate::memory::{read_bit, store};
-use crate::ranked::Ranked;
 use crate::turn::Turn;
+use clock_rank::{Ranked, orders_are_sorted};
 use design_core::{Design, Driver, NodeId};
 use id_arena::{Key, MemId, NetId};
 
@@ -30,6 +30,7 @@ pub(crate) fn run_pass(ranked: &Ranked<'_>, bases: &[usize], turn: Turn, old: &[
     let design = ranked.design();
     design.stands();
     ranked.stands();
+    orders_are_sorted();
     'nodes: for place in 0..ranked.len() {
         renew(design, bases, ranked.at(place), turn, old, new, words);
     }

@@ -4,9 +4,9 @@ use Rattle.std.specs.Prelude.{Some, slice_get, slice_index}
 use Rattle.id_arena.specs.declared.keys.MemId.{MemId}
 use Rattle.std.proofs.lemmas.Bool.{cases_eq}
 use Rattle.design_core.specs.Limits.{word_count}
-use Rattle.design_core.proofs.Bounds.{small, shifted}
+use Rattle.design_core.proofs.Bounds.{small}
 use Rattle.settled_model.specs.Held.{first_word, size_of}
-use Rattle.settled_model.proofs.Places.{next_base, base_room, one_base, length_pushed}
+use Rattle.settled_model.proofs.Places.{next_base, base_room, one_base, length_pushed, shifted}
 use Rattle.settled_model.proofs.memory.bases_of.Goals as goal
 
 pub overflow_add-total : goal.overflow_add-total
