@@ -1,5 +1,5 @@
 -- Runs are histories, and there is one history.
-use Rattle.std.proofs.Common.{◌≡◌, ◌<◌, ◌+◌, ◌^◌, ℕ, zero, suc, Bool, true, false, List, [], ◌∷◌, ◌++◌, length, refl, sym, ap, subst, ◌∙◌, if◌then◌else◌, arith}
+use Rattle.std.proofs.Common.{◌≡◌, ◌<◌, ◌^◌, ℕ, suc, Bool, true, false, List, [], ◌∷◌, length, refl, sym, ap, subst, ◌∙◌, if◌then◌else◌, arith}
 use Rattle.std.specs.Prelude.{◌==◌, ◌&&◌, Option, Some, None, IfSome, unwrap_or, slice_get, Contains}
 use Rattle.std.specs.Option.{option_or}
 use Rattle.std.proofs.lemmas.Bool.{and_parts}
@@ -7,14 +7,11 @@ use Rattle.std.proofs.lemmas.Nat.{pow_pos}
 use Rattle.std.proofs.lemmas.Option.{same_Some}
 use Rattle.design_core.specs.declared.element.Memory.{Memory}
 use Rattle.design_core.specs.declared.parts.Parts.{Parts}
-use Rattle.design_core.specs.declared.values.PortBit.{PortBit}
-use Rattle.design_core.specs.Valuation.{Valuation}
-use Rattle.design_core.specs.Event.{IsAfter, Follow}
 use Rattle.history_law.proofs.Naming.{number_same}
 use Rattle.one_history.proofs.Alone.{one_history}
 use Rattle.settled_model.specs.declared.opening.OpenWord.{OpenWord}
 use Rattle.settled_model.specs.Opening.{IsWord, word_given}
-use Rattle.settled_model.specs.Runs.{RunsGiveTheHistory, RunsGrow, OpeningsFit, last_of}
+use Rattle.settled_model.specs.Runs.{RunsGiveTheHistory, RunsGrow, OpeningsFit}
 
 pub runs_give_the_history : RunsGiveTheHistory
 runs_give_the_history p o events v vs d r fits opened follow =

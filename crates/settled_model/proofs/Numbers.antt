@@ -1,5 +1,5 @@
 -- The number that nets show, from the last bit on.
-use Rattle.std.proofs.Common.{◌≡◌, ◌<◌, ◌≤◌, ◌+◌, ◌-◌, ◌*◌, ◌^◌, ℕ, suc, Bool, true, false, List, [], ◌∷◌, drop, length, get_or, refl, sym, ap, subst, ◌∙◌, arith, pow-suc}
+use Rattle.std.proofs.Common.{◌≡◌, ◌<◌, ◌≤◌, ◌+◌, ◌*◌, ◌^◌, ℕ, Bool, true, false, List, [], ◌∷◌, drop, length, get_or, ap, subst, arith, pow-suc}
 use Rattle.std.proofs.lemmas.List.{drop_more, length-map, length-drop}
 use Rattle.std.proofs.Math.Pow.{pow_mono}
 use Rattle.id_arena.specs.declared.keys.NetId.{NetId}

@@ -1,6 +1,6 @@
 -- What a pass gives is the opened valuation, or the one after an event.
-use Rattle.std.proofs.Common.{◌≡◌, ◌<◌, ◌≤◌, ◌+◌, ◌^◌, ℕ, zero, suc, Bool, true, false, List, [], ◌∷◌, replicate, length, get_or, refl, sym, ap, subst, ◌∙◌, arith}
-use Rattle.std.specs.Prelude.{◌==◌, ◌||◌, ◌&&◌, Option, Some, None, IfSome, IfNone, slice_get, slice_index, unwrap_or, Contains}
+use Rattle.std.proofs.Common.{◌≡◌, ◌<◌, ◌+◌, ◌^◌, ℕ, zero, suc, Bool, true, false, List, [], ◌∷◌, replicate, length, get_or, refl, sym, ap, subst, ◌∙◌, arith}
+use Rattle.std.specs.Prelude.{◌==◌, ◌||◌, ◌&&◌, Option, Some, None, IfNone, slice_get, slice_index, unwrap_or, Contains}
 use Rattle.std.specs.List.{list_any, list_all}
 use Rattle.std.proofs.lemmas.Option.{slice_get-get_or, same_Some}
 use Rattle.id_arena.specs.declared.keys.NetId.{NetId}
@@ -9,11 +9,10 @@ use Rattle.design_core.specs.declared.element.Element.{Element}
 use Rattle.design_core.specs.declared.element.Element.TheVariants as element
 use Rattle.design_core.specs.declared.element.Memory.{Memory}
 use Rattle.design_core.specs.declared.element.WritePort.{WritePort}
-use Rattle.design_core.specs.declared.element.Driver.{Driver}
 use Rattle.design_core.specs.declared.element.Driver.TheVariants.{Elem}
 use Rattle.design_core.specs.declared.parts.Parts.{Parts}
 use Rattle.design_core.specs.declared.values.PortBit.{PortBit}
-use Rattle.design_core.specs.Design.{IsDesign, net_count, driver, drives, includes, is_net, port_bits}
+use Rattle.design_core.specs.Design.{IsDesign, net_count, drives, includes, is_net, port_bits}
 use Rattle.design_core.specs.Faults.{is_there}
 use Rattle.design_core.specs.Valuation.{Valuation, forced, passed}
 use Rattle.design_core.specs.Settled.{ElementHolds, HasState, IsOpened}

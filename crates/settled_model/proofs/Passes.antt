@@ -1,12 +1,8 @@
 -- A pass over the nodes in order gives each net what its driver gives, since what a node depends on does
 -- not change any more when the node has had its turn.
-use Rattle.std.proofs.Common.{◌≡◌, ◌<◌, ◌≤◌, ◌+◌, ◌^◌, ℕ, zero, suc, Bool, true, false, List, [], ◌∷◌, ◌++◌, map, take, length, get_or, refl, sym, ap, subst, ◌∙◌, inl, inr, arith, if◌then◌else◌}
-use Rattle.std.specs.Prelude.{Option, Some, None, slice_get, slice_set, Contains}
-use Rattle.std.proofs.lemmas.Bool.{cases_eq}
-use Rattle.std.proofs.lemmas.List.{length-set, get_or-set_same, get_or-set_other}
-use Rattle.std.proofs.lemmas.Option.{slice_get_within, same_Some, slice_get-get_or}
-use Rattle.std.proofs.Math.Seq.{take-length}
-use Rattle.id_arena.specs.declared.keys.NetId.{NetId}
+use Rattle.std.proofs.Common.{◌≡◌, ◌<◌, ◌^◌, ℕ, suc, Bool, List, [], map, length, get_or, refl, sym, ap, subst, ◌∙◌, arith, if◌then◌else◌}
+use Rattle.std.specs.Prelude.{Option, Some, None, slice_get, Contains}
+use Rattle.std.proofs.lemmas.Option.{slice_get-get_or}
 use Rattle.id_arena.specs.declared.keys.MemId.{MemId}
 use Rattle.design_core.specs.declared.element.Element.{Element}
 use Rattle.design_core.specs.declared.element.Element.TheVariants as element
@@ -19,18 +15,16 @@ use Rattle.design_core.specs.declared.node.NodeId.{NodeId}
 use Rattle.design_core.specs.declared.node.NodeId.TheVariants.{Net, Write}
 use Rattle.design_core.specs.declared.parts.Parts.{Parts}
 use Rattle.design_core.specs.Operation.{bit_of}
-use Rattle.design_core.specs.Design.{IsDesign, net_count, driver}
-use Rattle.design_core.specs.Limits.{word_count}
+use Rattle.design_core.specs.Design.{IsDesign, driver}
 use Rattle.design_core.specs.Valuation.{Valuation, shown_number}
-use Rattle.design_core.specs.Dependency.{dependencies, driver_needs, needs, read_needs, read_needs_at, write_nodes, write_needs, write_needs_at, IsNode}
+use Rattle.design_core.specs.Dependency.{dependencies, driver_needs, needs, read_needs, read_needs_at, write_nodes, write_needs, write_needs_at}
 use Rattle.history_law.proofs.Ranges.{Each, each_of, each_right, each_write}
 use Rattle.history_law.proofs.Equations.{Start, IsLocal, IsFixed, Same, shows, element_at, element_shows, memory_at, port_at, shows_same}
 use Rattle.history_law.proofs.Afterwards.{edge_same, address_bound}
 use Rattle.settled_model.specs.declared.turn.Turn.{Turn}
 use Rattle.settled_model.specs.Held.{shown, holding, word_in}
-use Rattle.settled_model.specs.Passing.{counts, kept, element_value, value_at, port_value, read_value, driver_value, written_in, HasStored, HasRenewed, AreRenewed, IsOrder}
+use Rattle.settled_model.specs.Passing.{counts, kept, element_value, value_at, port_value, read_value, driver_value, AreRenewed}
 use Rattle.settled_model.proofs.Ranges.{missing}
-use Rattle.settled_model.proofs.Stores.{stored_other, stored_more, stored_size, written_clocks}
 
 -- ## What drivers give, as the equations have it
 

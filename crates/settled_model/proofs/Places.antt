@@ -1,10 +1,10 @@
 -- Where the words of memories stand, one memory after the other, so that no two addresses share a place.
 use Rattle.std.proofs.Common.{◌≡◌, ◌<◌, ◌≤◌, ◌+◌, ◌*◌, ◌^◌, ◌%◌, ◌⊎◌, inl, inr, ℕ, zero, suc, Bool, true, false, List, [], ◌∷◌, ◌++◌, take, drop, length, get_or, refl, sym, ap, subst, ◌∙◌, if◌then◌else◌, arith}
-use Rattle.std.specs.Prelude.{◌==◌, ◌&&◌, Option, Some, None, slice_get, slice_set, slice_index, unwrap_or, Contains}
+use Rattle.std.specs.Prelude.{◌==◌, ◌&&◌, Option, Some, None, slice_get, slice_set, slice_index, unwrap_or}
 use Rattle.std.specs.Option.{option_or}
 use Rattle.std.specs.List.{sum_by}
 use Rattle.std.proofs.lemmas.Bool.{and_parts, cases_order, cases_eq}
-use Rattle.std.proofs.lemmas.List.{drop_more, get_or-set_same, get_or-set_other, get_or_push, get_or_append_left, length-append}
+use Rattle.std.proofs.lemmas.List.{get_or-set_same, get_or-set_other, get_or_push, get_or_append_left, length-append}
 use Rattle.std.proofs.lemmas.List.Sums.{sum_by-cons, sum_by_more, sum_by_more_le}
 use Rattle.std.proofs.lemmas.Option.{none-some, same_Some, slice_get_within, get_or_from_slice_get}
 use Rattle.std.proofs.Math.Pow.{pow_mono}

@@ -1,6 +1,6 @@
 -- So many nodes of the order have had their turn.
-use Rattle.std.proofs.Common.{◌≡◌, ◌<◌, ◌≤◌, ◌+◌, ◌^◌, ◌⊎◌, ℕ, zero, suc, Bool, true, false, List, [], ◌∷◌, map, take, length, get_or, refl, sym, ap, subst, ◌∙◌, inl, inr, arith}
-use Rattle.std.specs.Prelude.{Option, Some, None, slice_get, slice_set, Contains}
+use Rattle.std.proofs.Common.{◌≡◌, ◌<◌, ◌≤◌, ◌+◌, ◌^◌, ◌⊎◌, ℕ, zero, suc, Bool, false, List, [], ◌∷◌, take, length, get_or, refl, sym, ap, subst, ◌∙◌, inl, inr, arith}
+use Rattle.std.specs.Prelude.{Some, slice_get, slice_set, Contains}
 use Rattle.std.proofs.lemmas.Bool.{cases_eq, cases_lt}
 use Rattle.std.proofs.lemmas.List.{length-set, get_or-set_same, get_or-set_other, length-take-le}
 use Rattle.std.proofs.lemmas.Option.{none-some, slice_get_within, same_Some, slice_get-get_or}
@@ -319,7 +319,7 @@ module _ (p : Parts) (d : IsDesign p) (order : List NodeId) (o : IsOrder p order
           ∙ h.stands l ports a other here few low
           (record {
             all = λ i less. other_before differ i (had.all i less);
-            only = λ i turn. had.only i (later (Write l i) turn)
+            only = λ i turn. had.only i (later (Write l i) turn);
           })
     ]
       where
@@ -369,7 +369,7 @@ all_passed p order turn old start begun new words o h =
             only = λ i turned.
                 let node : IsNode p (Write (record { place = m }) i) = o.nodes turned.place (Write (record { place = m }) i) turned.at in
                 let same : node.0 ≡ memory = same_Some node.0 memory (sym node.1 ∙ at) in
-                subst (λ (x : Memory). i < length x.writes) same node.2
+                subst (λ (x : Memory). i < length x.writes) same node.2;
           })
           ∙ ap (λ ports. written_in turn (shown old) (shown new) ports a (word_in p begun m a)) (take-length memory.writes);
     }

@@ -1,6 +1,6 @@
 -- The sizes of a memory's ports, and that they name nets of the design.
-use Rattle.std.proofs.Common.{◌≡◌, ◌<◌, ◌≤◌, ◌+◌, ◌^◌, ℕ, Bool, true, ◌&&◌, List, [], ◌∷◌, map, length, get_or, refl, sym, ap, subst, ◌∙◌, arith}
-use Rattle.std.specs.Prelude.{◌==◌, Some, slice_get, nat_lt, nat_le, slice_index}
+use Rattle.std.proofs.Common.{◌≡◌, ◌<◌, ◌≤◌, ◌+◌, ◌^◌, ℕ, Bool, true, ◌&&◌, List, length, sym, ap, subst, ◌∙◌, arith}
+use Rattle.std.specs.Prelude.{◌==◌, Some, slice_get, slice_index}
 use Rattle.std.specs.List.{list_all}
 use Rattle.std.proofs.lemmas.Bool.{and_parts}
 use Rattle.std.proofs.lemmas.Option.{slice_get_within, same_Some}
@@ -9,16 +9,14 @@ use Rattle.design_core.specs.declared.element.Memory.{Memory}
 use Rattle.design_core.specs.declared.element.ReadPort.{ReadPort}
 use Rattle.design_core.specs.declared.element.WritePort.{WritePort}
 use Rattle.design_core.specs.declared.element.Driver.TheVariants.{Read}
-use Rattle.design_core.specs.declared.node.NodeId.TheVariants.{Write}
 use Rattle.design_core.specs.declared.parts.Parts.{Parts}
 use Rattle.design_core.specs.Design.{IsDesign, net_count, driver, memory_fits, write_reads}
-use Rattle.design_core.specs.Dependency.{IsNode}
 use Rattle.design_core.specs.Faults.{are_there}
 use Rattle.design_core.specs.Limits.{word_count}
 use Rattle.design_core.proofs.Bounds.{every, small}
 use Rattle.history_law.proofs.Naming.{number_same, driver_is_read_bit}
 use Rattle.history_law.proofs.Ranges.{within_each, write_within, read_within}
-use Rattle.settled_model.specs.Held.{AreBases, first_word, size_of}
+use Rattle.settled_model.specs.Held.{AreBases, first_word}
 use Rattle.settled_model.proofs.Ranges.{each_there}
 use Rattle.settled_model.proofs.Places.{base_room}
 

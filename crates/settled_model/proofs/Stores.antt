@@ -1,22 +1,21 @@
 -- What a write port makes of the table of words.
-use Rattle.std.proofs.Common.{◌≡◌, ◌<◌, ◌≤◌, ◌+◌, ◌^◌, ℕ, zero, suc, Bool, true, false, List, [], ◌∷◌, ◌++◌, take, length, get_or, refl, sym, ap, subst, ◌∙◌, arith, if◌then◌else◌}
-use Rattle.std.specs.Prelude.{◌==◌, ◌&&◌, Option, Some, None, slice_get, slice_set, slice_index}
+use Rattle.std.proofs.Common.{◌≡◌, ◌<◌, ◌+◌, ◌^◌, ℕ, Bool, true, false, List, [], ◌∷◌, ◌++◌, take, length, refl, sym, ap, subst, ◌∙◌, if◌then◌else◌}
+use Rattle.std.specs.Prelude.{◌==◌, ◌&&◌, Some, slice_get, slice_set}
 use Rattle.std.proofs.lemmas.List.{length-set, take_more}
-use Rattle.std.proofs.lemmas.Option.{none-some, slice_get_within, get_or_from_slice_get}
+use Rattle.std.proofs.lemmas.Option.{slice_get_within, get_or_from_slice_get}
 use Rattle.design_core.specs.declared.element.Memory.{Memory}
 use Rattle.design_core.specs.declared.element.WritePort.{WritePort}
 use Rattle.design_core.specs.declared.parts.Parts.{Parts}
-use Rattle.design_core.specs.Design.{IsDesign, memory_fits}
+use Rattle.design_core.specs.Design.{IsDesign}
 use Rattle.design_core.specs.Limits.{word_count}
 use Rattle.design_core.specs.Valuation.{Valuation, shown_number, IsAddress}
 use Rattle.design_core.specs.Event.{stores, written}
-use Rattle.history_law.proofs.Lists.{no}
 use Rattle.history_law.proofs.Naming.{same_number, number_same}
 use Rattle.history_law.proofs.Afterwards.{written_same}
 use Rattle.settled_model.specs.declared.turn.Turn.{Turn}
 use Rattle.settled_model.specs.declared.turn.Turn.TheVariants.{Opening, Event}
 use Rattle.settled_model.specs.Held.{shown, first_word, word_in}
-use Rattle.settled_model.specs.Passing.{stored, stored_in, written_in}
+use Rattle.settled_model.specs.Passing.{stored_in, written_in}
 use Rattle.settled_model.proofs.Numbers.{shown_low}
 use Rattle.settled_model.proofs.Places.{word_put}
 use Rattle.settled_model.proofs.Sizes.{write_sizes, fits_at}

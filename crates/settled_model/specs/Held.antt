@@ -1,6 +1,6 @@
 -- How tables of values of nets and of words stand for a valuation.
 -- The rule is told in docs/RULES.md, "Values and valuations".
-use Rattle.std.specs.Prelude.{◌≡◌, ◌+◌, ◌≤◌, ◌^◌, ℕ, Bool, false, List, [], take, length, get_or, slice_index}
+use Rattle.std.specs.Prelude.{◌≡◌, ◌+◌, ◌≤◌, ◌^◌, ℕ, Bool, false, List, take, length, get_or, slice_index}
 use Rattle.std.specs.List.{sum_by}
 use Rattle.design_core.specs.declared.element.Memory.{Memory}
 use Rattle.design_core.specs.declared.parts.Parts.{Parts}

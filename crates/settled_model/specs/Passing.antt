@@ -2,7 +2,6 @@
 -- The rules are told in docs/RULES.md, "Opened" and "After an event".
 use Rattle.std.specs.Prelude.{◌≡◌, ◌<◌, ◌+◌, ◌^◌, ◌==◌, ◌||◌, ℕ, Bool, false, Option, Some, None, List, if◌then◌else◌, length, unwrap_or, slice_get, slice_set, get_or, Contains}
 use Rattle.std.specs.List.{list_any}
-use Rattle.id_arena.specs.declared.keys.NetId.{NetId}
 use Rattle.id_arena.specs.declared.keys.ElemId.{ElemId}
 use Rattle.design_core.specs.declared.element.Element.{Element}
 use Rattle.design_core.specs.declared.element.Element.TheVariants as element

@@ -77,7 +77,13 @@ pub(crate) fn store(port: &WritePort, base: usize, old: &[bool], new: &[bool], w
 }
 
 /// What a read port gives to its net of this bit.
-pub(crate) fn read_bit(port: &ReadPort, bit: u32, base: usize, nets: &[bool], words: &[u128]) -> bool
+pub(crate) fn read_bit(
+    port: &ReadPort,
+    bit: u32,
+    base: usize,
+    nets: &[bool],
+    words: &[u128],
+) -> bool
     requires reads { IsTrue (are_there (length nets.now) port.now.address) }
     requires address { length port.now.address ≤ 16 }
     requires bit { bit < 128 }

@@ -20,7 +20,14 @@ use id_arena::{Key, MemId, NetId};
 
 /// Gives each net what its driver gives it, and in an event lets each write port act. Inputs keep what
 /// they have.
-pub(crate) fn run_pass(ranked: &Ranked<'_>, bases: &[usize], turn: Turn, old: &[bool], new: &mut [bool], words: &mut [u128])
+pub(crate) fn run_pass(
+    ranked: &Ranked<'_>,
+    bases: &[usize],
+    turn: Turn,
+    old: &[bool],
+    new: &mut [bool],
+    words: &mut [u128],
+)
     requires bases { AreBases ranked.now.design bases.now }
     requires old_size { length old.now ≡ net_count ranked.now.design }
     requires new_size { length new.old ≡ net_count ranked.now.design }
@@ -37,7 +44,15 @@ pub(crate) fn run_pass(ranked: &Ranked<'_>, bases: &[usize], turn: Turn, old: &[
 }
 
 /// Gives a node its turn.
-fn renew(design: &Design, bases: &[usize], node: NodeId, turn: Turn, old: &[bool], new: &mut [bool], words: &mut [u128])
+fn renew(
+    design: &Design,
+    bases: &[usize],
+    node: NodeId,
+    turn: Turn,
+    old: &[bool],
+    new: &mut [bool],
+    words: &mut [u128],
+)
     requires design { IsDesign design.now }
     requires within { IsWithin design.now }
     requires bases { AreBases design.now bases.now }
@@ -60,7 +75,15 @@ fn renew(design: &Design, bases: &[usize], node: NodeId, turn: Turn, old: &[bool
 }
 
 /// What the driver of a net gives it, where the nodes on which it depends have had their turn.
-fn next_value(design: &Design, bases: &[usize], net: NetId, turn: Turn, old: &[bool], new: &[bool], words: &[u128]) -> bool
+fn next_value(
+    design: &Design,
+    bases: &[usize],
+    net: NetId,
+    turn: Turn,
+    old: &[bool],
+    new: &[bool],
+    words: &[u128],
+) -> bool
     requires design { IsDesign design.now }
     requires within { IsWithin design.now }
     requires bases { AreBases design.now bases.now }
@@ -79,7 +102,14 @@ fn next_value(design: &Design, bases: &[usize], net: NetId, turn: Turn, old: &[b
 }
 
 /// What a bit of a memory's read port gives to its net.
-fn read(design: &Design, bases: &[usize], net: NetId, from: (MemId, u32, u32), nets: &[bool], words: &[u128]) -> bool
+fn read(
+    design: &Design,
+    bases: &[usize],
+    net: NetId,
+    from: (MemId, u32, u32),
+    nets: &[bool],
+    words: &[u128],
+) -> bool
     requires design { IsDesign design.now }
     requires bases { AreBases design.now bases.now }
     requires from { driver design.now net.place ≡ Read from.0 from.1 from.2 }
@@ -93,7 +123,15 @@ fn read(design: &Design, bases: &[usize], net: NetId, from: (MemId, u32, u32), n
 }
 
 /// Lets a memory's write port act in an event.
-fn act(design: &Design, bases: &[usize], mem: MemId, port: u32, old: &[bool], new: &[bool], words: &mut [u128])
+fn act(
+    design: &Design,
+    bases: &[usize],
+    mem: MemId,
+    port: u32,
+    old: &[bool],
+    new: &[bool],
+    words: &mut [u128],
+)
     requires design { IsDesign design.now }
     requires bases { AreBases design.now bases.now }
     requires node { IsNode design.now (Write mem port) }

@@ -56,7 +56,11 @@ impl<'a> Model for Settled<'a> {
 
 impl<'a> Settled<'a> {
     /// The opened valuation.
-    pub fn open(alloc: Global, ranked: &'a Ranked<'a>, opening: &Opening) -> Result<Settled<'a>, NoMemory>
+    pub fn open(
+        alloc: Global,
+        ranked: &'a Ranked<'a>,
+        opening: &Opening,
+    ) -> Result<Settled<'a>, NoMemory>
         requires { Opens ranked.now.design opening.now }
         ensures design { IfOk result (λ s. s.parts ≡ ranked.now.design) }
         ensures opened { IfOk result (λ s. IsOpened ranked.now.design (stands_for opening.now) (valuation s)) }
@@ -84,7 +88,14 @@ impl<'a> Settled<'a> {
         ensures design { self.new.parts ≡ self.old.parts }
         ensures after { IsAfter self.old.parts (valuation self.old) values.now (valuation self.new) }
     {
-        fill_next(self.ranked, &self.bases, values, self.nets.as_slice(), &mut self.next, &mut self.words);
+        fill_next(
+            self.ranked,
+            &self.bases,
+            values,
+            self.nets.as_slice(),
+            &mut self.next,
+            &mut self.words,
+        );
         mem::swap(&mut self.nets, &mut self.next);
     }
 
@@ -106,7 +117,14 @@ impl<'a> Settled<'a> {
 }
 
 /// Fills tables of zeros with the opened valuation, and one more with the states on the way there.
-fn fill_opened(ranked: &Ranked<'_>, bases: &[usize], opening: &Opening, states: &mut [bool], nets: &mut [bool], words: &mut [u128])
+fn fill_opened(
+    ranked: &Ranked<'_>,
+    bases: &[usize],
+    opening: &Opening,
+    states: &mut [bool],
+    nets: &mut [bool],
+    words: &mut [u128],
+)
     requires bases { AreBases ranked.now.design bases.now }
     requires opening { Opens ranked.now.design opening.now }
     requires states { states.old ≡ replicate (net_count ranked.now.design) false }
@@ -123,7 +141,14 @@ fn fill_opened(ranked: &Ranked<'_>, bases: &[usize], opening: &Opening, states: 
 }
 
 /// Fills tables with the valuation after an event that gives these values.
-fn fill_next(ranked: &Ranked<'_>, bases: &[usize], values: &PortValues, old: &[bool], new: &mut [bool], words: &mut [u128])
+fn fill_next(
+    ranked: &Ranked<'_>,
+    bases: &[usize],
+    values: &PortValues,
+    old: &[bool],
+    new: &mut [bool],
+    words: &mut [u128],
+)
     requires bases { AreBases ranked.now.design bases.now }
     requires inputs { AreInputs ranked.now.design values.now }
     requires old_size { length old.now ≡ net_count ranked.now.design }

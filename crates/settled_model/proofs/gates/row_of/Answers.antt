@@ -1,4 +1,4 @@
-use Rattle.std.proofs.Common.{◌≡◌, ◌<◌, ◌≤◌, ◌+◌, ◌*◌, ◌^◌, ℕ, Bool, true, false, sym, ap, ◌∙◌, arith}
+use Rattle.std.proofs.Common.{◌≡◌, ◌≤◌, ◌+◌, ◌*◌, ◌^◌, ap, ◌∙◌, arith}
 use Rattle.design_core.specs.Operation.{bit}
 use Rattle.settled_model.proofs.Rows.{next_row, added, passed_over, stays_low, doubled, power, rest_there}
 use Rattle.settled_model.proofs.gates.row_of.Goals.{then-value_of, else-value_of}
@@ -15,7 +15,7 @@ inputs-preserved c =
           (grows ∙ ap (λ b. c.inputs.row + c.inputs.weight * bit b) c.value_of.ensures);
       weight = doubled c.inputs.input-index c.inputs.weight c.inputs.invariant.weight;
       low = stays_low c.value_of.result c.inputs.row c.if-value_of.row c.inputs.weight c.inputs.invariant.low grows;
-      there = rest_there _ _ _ c.inputs-test.true c.inputs.invariant.there
+      there = rest_there _ _ _ c.inputs-test.true c.inputs.invariant.there;
     }
 
 pub returns-clause-low : goal.returns-clause-low

@@ -1,8 +1,7 @@
 -- The words of one more memory.
-use Rattle.std.proofs.Common.{◌≡◌, ◌<◌, ◌≤◌, ◌+◌, ◌*◌, ◌^◌, ◌%◌, ℕ, length, inl, inr, subst, sym, ap, ◌∙◌, arith}
-use Rattle.std.specs.Prelude.{Some, slice_get, slice_index}
+use Rattle.std.proofs.Common.{◌≡◌, ◌≤◌, ◌+◌, ◌*◌, ◌^◌, ◌%◌, length, subst, ap, ◌∙◌, arith}
+use Rattle.std.specs.Prelude.{Some, slice_get}
 use Rattle.id_arena.specs.declared.keys.MemId.{MemId}
-use Rattle.std.proofs.lemmas.Bool.{cases_eq}
 use Rattle.design_core.specs.Limits.{word_count}
 use Rattle.design_core.proofs.Bounds.{small}
 use Rattle.settled_model.specs.Held.{first_word, size_of}
@@ -31,5 +30,5 @@ memories-preserved c =
     record {
       total = total;
       size = ap length c.in_ok-push-2.ensures.items ∙ length_pushed c.memories.bases.items _ (c.memories.place + 1) c.memories.invariant.size;
-      each = one_base c.args.design.now c.memories.bases.items c.push-in-memories.new.self.items c.memories.place _ c.memories.invariant.size c.memories.invariant.each total c.in_ok-push-2.ensures.items
+      each = one_base c.args.design.now c.memories.bases.items c.push-in-memories.new.self.items c.memories.place _ c.memories.invariant.size c.memories.invariant.each total c.in_ok-push-2.ensures.items;
     }

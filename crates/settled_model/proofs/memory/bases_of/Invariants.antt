@@ -8,5 +8,5 @@ abbrev pub invariant-memories : goal.invariant-memories
 invariant-memories l = record {
   total : l.total ≡ first_word l.design l.place;
   size : length l.bases.items ≡ l.place + 1;
-  each : (m : ℕ) → m ≤ l.place → slice_index l.bases.items m ≡ first_word l.design m
+  each : (m : ℕ) → m ≤ l.place → slice_index l.bases.items m ≡ first_word l.design m;
 }

@@ -1,5 +1,5 @@
 -- What so many bits show is below the power of two.
-use Rattle.std.proofs.Common.{◌≡◌, ◌<◌, ◌≤◌, ◌^◌, ℕ, drop, length, subst, sym, ap, ◌∙◌, arith}
+use Rattle.std.proofs.Common.{◌≡◌, ◌<◌, ◌^◌, ℕ, drop, length, subst, sym, ap, ◌∙◌, arith}
 use Rattle.design_core.specs.Valuation.{shown_number}
 use Rattle.settled_model.specs.Held.{shown}
 use Rattle.settled_model.proofs.Numbers.{shown_low, rest_low}

@@ -7,7 +7,7 @@ use Rattle.settled_model.proofs.memory.number_shown.Given as goal
 abbrev pub invariant-bits : goal.invariant-bits
 invariant-bits l = record {
   number : l.number ≡ shown_number (shown l.nets) (drop l.place l.bits);
-  place : l.place ≤ length l.bits
+  place : l.place ≤ length l.bits;
 }
 
 abbrev pub decreases-bits : goal.decreases-bits

@@ -1,5 +1,5 @@
 -- Each word has an address, which has its place in the table.
-use Rattle.std.proofs.Common.{◌≡◌, ◌<◌, ◌≤◌, ◌+◌, ℕ, List, length, get_or, subst, sym, ap, ◌∙◌, arith}
+use Rattle.std.proofs.Common.{◌≡◌, ◌<◌, ◌+◌, ℕ, length, get_or, ap, ◌∙◌, arith}
 use Rattle.std.specs.Prelude.{slice_index, slice_set}
 use Rattle.std.proofs.lemmas.List.{drop_more, length-set}
 use Rattle.design_core.specs.Limits.{word_count}
@@ -45,5 +45,5 @@ words-preserved c =
           one_word c.args.design.now c.args.given.now c.words.word-index w (drop_more c.args.given.now c.words.word-index zero_word c.words-test.true) c.words.words _ m a has address size
           (ap (λ (k : ℕ). slice_set c.words.words (k + w.address) w.value) base)
           ∙ c.words.invariant.rest m a has;
-      size = length-set c.words.words _ w.value ∙ c.words.invariant.size
+      size = length-set c.words.words _ w.value ∙ c.words.invariant.size;
     }

@@ -10,5 +10,5 @@ abbrev pub invariant-words : goal.invariant-words
 invariant-words l = record {
   rest : (m a : ℕ) → IsAddress l.design m a
       → unwrap_or (word_given (drop l.word-index l.given) m a) (word_in l.design l.words m a) ≡ unwrap_or (word_given l.given m a) (word_in l.design l.initial.words m a);
-  size : length l.words ≡ length l.initial.words
+  size : length l.words ≡ length l.initial.words;
 }

@@ -1,5 +1,5 @@
 -- The port names nets of the design, and has the sizes of its memory.
-use Rattle.std.proofs.Common.{◌≡◌, ◌≤◌, ◌+◌, ◌^◌, ℕ, List, true, length, subst, sym, ap, ◌∙◌, arith}
+use Rattle.std.proofs.Common.{◌≡◌, ◌≤◌, ◌+◌, ◌^◌, ℕ, true, length, subst, sym, ap, ◌∙◌, arith}
 use Rattle.std.specs.Prelude.{Some, slice_get, slice_index}
 use Rattle.design_core.specs.declared.element.WritePort.{WritePort}
 use Rattle.design_core.specs.Design.{write_reads}

@@ -1,8 +1,7 @@
 -- The port and the bit that drive a net are there, and the port has the sizes of its memory.
-use Rattle.std.proofs.Common.{◌≡◌, ◌<◌, ◌≤◌, ◌+◌, ◌^◌, ℕ, List, true, length, subst, sym, ap, ◌∙◌, arith}
+use Rattle.std.proofs.Common.{◌≡◌, ◌<◌, ◌≤◌, ◌+◌, ◌^◌, ℕ, true, length, subst, sym, ap, ◌∙◌, arith}
 use Rattle.std.specs.Prelude.{Some, slice_get, slice_index}
 use Rattle.std.proofs.lemmas.Option.{slice_get_within}
-use Rattle.design_core.specs.Design.{write_reads}
 use Rattle.design_core.specs.Faults.{are_there}
 use Rattle.design_core.specs.Limits.{word_count}
 use Rattle.design_core.specs.Operation.{bit_of}
@@ -10,7 +9,7 @@ use Rattle.design_core.specs.Valuation.{shown_number}
 use Rattle.design_core.proofs.Bounds.{small}
 use Rattle.settled_model.specs.Held.{shown, first_word, word_in}
 use Rattle.settled_model.specs.Passing.{read_value, port_value}
-use Rattle.settled_model.proofs.Sizes.{IsBit, bit_named, read_sizes, reads_there, port_room, port_within, bit_low, base_at, base_within}
+use Rattle.settled_model.proofs.Sizes.{bit_named, read_sizes, reads_there, port_room, port_within, bit_low, base_at, base_within}
 use Rattle.settled_model.proofs.pass.read.Goals as goal
 
 pub mem-requires : goal.mem-requires

@@ -1,5 +1,5 @@
 -- One more node has its turn, and in the end all have had it.
-use Rattle.std.proofs.Common.{◌≡◌, ◌≤◌, ℕ, length, subst, arith}
+use Rattle.std.proofs.Common.{◌≡◌, ℕ, length, subst, arith}
 use Rattle.design_core.specs.declared.parts.Parts.{Parts}
 use Rattle.design_core.specs.Design.{IsDesign}
 use Rattle.settled_model.specs.Passing.{HasRenewed}

@@ -1,5 +1,5 @@
 -- The pass from the old values with the inputs put in gives the valuation after.
-use Rattle.std.proofs.Common.{◌≡◌, subst, ◌∙◌}
+use Rattle.std.proofs.Common.{subst, ◌∙◌}
 use Rattle.design_core.specs.Design.{IsDesign}
 use Rattle.settled_model.proofs.Outcomes.{inputs_there, put_in, after_event}
 use Rattle.settled_model.proofs.settled.fill_next.Goals as goal

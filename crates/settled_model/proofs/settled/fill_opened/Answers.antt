@@ -1,6 +1,6 @@
 -- The pass from the states that are set and the inputs and words that are put in gives the opened
 -- valuation.
-use Rattle.std.proofs.Common.{◌≡◌, ℕ, List, false, replicate, length, subst, sym, ap, refl, ◌∙◌}
+use Rattle.std.proofs.Common.{List, false, replicate, length, subst, sym, ap, ◌∙◌}
 use Rattle.std.proofs.lemmas.List.{length-replicate}
 use Rattle.id_arena.specs.declared.keys.ElemId.{ElemId}
 use Rattle.design_core.specs.declared.parts.Parts.{Parts}

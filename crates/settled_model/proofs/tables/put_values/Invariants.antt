@@ -10,5 +10,5 @@ abbrev pub invariant-values : goal.invariant-values
 invariant-values l = record {
   rest : (n : ℕ) → unwrap_or (given (drop l.bit-index l.values) n) (get_or l.nets n false) ≡ unwrap_or (given l.values n) (get_or l.initial.nets n false);
   there : IsTrue (list_all (λ b. is_there (length l.nets) b.net) (drop l.bit-index l.values));
-  size : length l.nets ≡ length l.initial.nets
+  size : length l.nets ≡ length l.initial.nets;
 }

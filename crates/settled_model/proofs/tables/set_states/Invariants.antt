@@ -9,5 +9,5 @@ abbrev pub invariant-ones : goal.invariant-ones
 invariant-ones l = record {
   rest : (n : ℕ) → (get_or l.nets n false || list_any (λ id. is_state_at n (slice_get l.design.elements id.place)) (drop l.id-index l.ones))
       ≡ (get_or l.initial.nets n false || list_any (λ id. is_state_at n (slice_get l.design.elements id.place)) l.ones);
-  size : length l.nets ≡ length l.initial.nets
+  size : length l.nets ≡ length l.initial.nets;
 }

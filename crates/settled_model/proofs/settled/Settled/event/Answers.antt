@@ -1,5 +1,5 @@
 -- The inputs are those of the design that is settled.
-use Rattle.std.proofs.Common.{◌≡◌, sym, subst}
+use Rattle.std.proofs.Common.{sym, subst}
 use Rattle.settled_model.specs.Held.{Held}
 use Rattle.settled_model.specs.Opening.{AreInputs}
 use Rattle.settled_model.proofs.settled.Settled.event.Goals as goal
