@@ -1,0 +1,145 @@
+//! One pass over the nodes of a design, in an order in which each stands after all on which it depends.
+
+ghost use Rattle.std.specs.Prelude.{◌≡◌, ◌<◌, Some, length, slice_get};
+ghost use Rattle.design_core.specs.Dependency.{IsNode};
+ghost use Rattle.design_core.specs.Design.{IsDesign, driver, net_count};
+ghost use Rattle.design_core.specs.Limits.{IsWithin, word_count};
+ghost use Rattle.settled_model.specs.declared.turn.Turn.TheVariants.{Event};
+ghost use Rattle.design_core.specs.declared.node.NodeId.TheVariants.{Write};
+ghost use Rattle.design_core.specs.declared.element.Driver.TheVariants.{Read};
+ghost use Rattle.settled_model.specs.Held.{AreBases, shown, word_in};
+ghost use Rattle.settled_model.specs.Passing.{AreRenewed, HasRenewed, HasStored, driver_value, read_value};
+
+use crate::elements::element_value;
+use crate::gates::value_of;
+use crate::memory::{read_bit, store};
+use crate::turn::Turn;
+use clock_rank::{Ranked, orders_are_sorted};
+use design_core::{Design, Driver, NodeId};
+use id_arena::{Key, MemId, NetId};
+
+/// Gives each net what its driver gives it, and in an event lets each write port act. Inputs keep what
+/// they have.
+pub(crate) fn run_pass(
+    ranked: &Ranked<'_>,
+    bases: &[usize],
+    turn: Turn,
+    old: &[bool],
+    new: &mut [bool],
+    words: &mut [u128],
+)
+    requires bases { AreBases ranked.now.design bases.now }
+    requires old_size { length old.now ≡ net_count ranked.now.design }
+    requires new_size { length new.old ≡ net_count ranked.now.design }
+    requires room { length words.old ≡ word_count ranked.now.design }
+    ensures { AreRenewed ranked.now.design turn old.now new.old words.old new.new words.new }
+{
+    let design = ranked.design();
+    design.stands();
+    ranked.stands();
+    orders_are_sorted();
+    'nodes: for place in 0..ranked.len() {
+        renew(design, bases, ranked.at(place), turn, old, new, words);
+    }
+}
+
+/// Gives a node its turn.
+fn renew(
+    design: &Design,
+    bases: &[usize],
+    node: NodeId,
+    turn: Turn,
+    old: &[bool],
+    new: &mut [bool],
+    words: &mut [u128],
+)
+    requires design { IsDesign design.now }
+    requires within { IsWithin design.now }
+    requires bases { AreBases design.now bases.now }
+    requires node { IsNode design.now node }
+    requires old_size { length old.now ≡ net_count design.now }
+    requires new_size { length new.old ≡ net_count design.now }
+    requires room { length words.old ≡ word_count design.now }
+    ensures { HasRenewed design.now turn old.now node new.old words.old new.new words.new }
+{
+    match node {
+        NodeId::Net(net) => {
+            new[net.place() as usize] = next_value(design, bases, net, turn, old, new, words);
+        }
+        NodeId::Write(mem, port) => {
+            if turn == Turn::Event {
+                act(design, bases, mem, port, old, new, words);
+            }
+        }
+    }
+}
+
+/// What the driver of a net gives it, where the nodes on which it depends have had their turn.
+fn next_value(
+    design: &Design,
+    bases: &[usize],
+    net: NetId,
+    turn: Turn,
+    old: &[bool],
+    new: &[bool],
+    words: &[u128],
+) -> bool
+    requires design { IsDesign design.now }
+    requires within { IsWithin design.now }
+    requires bases { AreBases design.now bases.now }
+    requires there { net.place < net_count design.now }
+    requires old_size { length old.now ≡ net_count design.now }
+    requires new_size { length new.now ≡ net_count design.now }
+    requires room { length words.now ≡ word_count design.now }
+    ensures { result ≡ driver_value design.now turn (shown new.now).net (word_in design.now words.now) (shown old.now) (shown new.now) net.place (driver design.now net.place) }
+{
+    match design.driver(net) {
+        Driver::Constant(value) => value,
+        Driver::Input => value_of(new, net),
+        Driver::Elem(id) => element_value(turn, design.elem(id), old, new),
+        Driver::Read(mem, port, bit) => read(design, bases, net, (mem, port, bit), new, words),
+    }
+}
+
+/// What a bit of a memory's read port gives to its net.
+fn read(
+    design: &Design,
+    bases: &[usize],
+    net: NetId,
+    from: (MemId, u32, u32),
+    nets: &[bool],
+    words: &[u128],
+) -> bool
+    requires design { IsDesign design.now }
+    requires bases { AreBases design.now bases.now }
+    requires from { driver design.now net.place ≡ Read from.0 from.1 from.2 }
+    requires new_size { length nets.now ≡ net_count design.now }
+    requires room { length words.now ≡ word_count design.now }
+    ensures { result ≡ read_value (word_in design.now words.now from.0.place) (shown nets.now) from.1 from.2 (slice_get design.now.memories from.0.place) }
+{
+    let (mem, port, bit) = from;
+    let port = design.mem(mem).reads.get(u64::from(port));
+    read_bit(port, bit, bases[mem.place() as usize], nets, words)
+}
+
+/// Lets a memory's write port act in an event.
+fn act(
+    design: &Design,
+    bases: &[usize],
+    mem: MemId,
+    port: u32,
+    old: &[bool],
+    new: &[bool],
+    words: &mut [u128],
+)
+    requires design { IsDesign design.now }
+    requires bases { AreBases design.now bases.now }
+    requires node { IsNode design.now (Write mem port) }
+    requires old_size { length old.now ≡ net_count design.now }
+    requires new_size { length new.now ≡ net_count design.now }
+    requires room { length words.old ≡ word_count design.now }
+    ensures { HasStored design.now Event old.now new.now mem.place port words.old words.new }
+{
+    let port = design.mem(mem).writes.get(u64::from(port));
+    store(port, bases[mem.place() as usize], old, new, words);
+}

@@ -1,0 +1,163 @@
+//! The settled valuation of a ranked design.
+
+ghost use Rattle.std.specs.Prelude.{◌≡◌, ◌<◌, IfOk, false, length, replicate};
+ghost use Rattle.design_core.specs.Design.{net_count};
+ghost use Rattle.design_core.specs.Event.{IsAfter};
+ghost use Rattle.design_core.specs.Limits.{word_count};
+ghost use Rattle.design_core.specs.Settled.{IsOpened};
+ghost use Rattle.design_core.specs.Valuation.{IsAddress};
+ghost use Rattle.settled_model.specs.Held.{AreBases, holding, valuation};
+ghost use Rattle.settled_model.specs.Opening.{AreInputs, Opens, stands_for};
+
+use crate::memory::{bases_of, put_words, word_at};
+use crate::opening::Opening;
+use crate::pass::run_pass;
+use crate::tables::{put_values, set_states};
+use crate::turn::Turn;
+use clock_rank::Ranked;
+use design_core::PortValues;
+use emu_io::NoMemory;
+use id_arena::{Key, MemId, NetId};
+use std::alloc::Global;
+use std::marker::Model;
+use std::mem;
+
+/// The settled valuation of a ranked design, from its opening on and through its events.
+///
+/// A clause sees the design's parts, the value of each net, and the words of all memories, one after the
+/// other.
+#[derive(Drop)]
+pub struct Settled<'a> {
+    ranked: &'a Ranked<'a>,
+    /// The value of each net.
+    nets: Vec<bool>,
+    /// Room for the values after the next event.
+    next: Vec<bool>,
+    /// Where the words of each memory begin.
+    bases: Vec<usize>,
+    words: Vec<u128>,
+}
+
+impl<'a> Model for Settled<'a> {
+    ghost use Rattle.std.specs.Prelude.{◌≡◌, length};
+    ghost use Rattle.design_core.specs.Design.{net_count};
+    ghost use Rattle.design_core.specs.Limits.{word_count};
+    ghost use Rattle.settled_model.specs.Held.{AreBases, Held};
+
+    ghost Value = { Held };
+
+    ghost view = { λ s. record { parts = s.ranked.now.design; nets = s.nets.items; words = s.words.items } };
+
+    ghost invariant = { λ s. (length s.nets.items ≡ net_count s.ranked.now.design)
+        × (length s.next.items ≡ net_count s.ranked.now.design)
+        × AreBases s.ranked.now.design s.bases.items
+        × (length s.words.items ≡ word_count s.ranked.now.design) };
+}
+
+impl<'a> Settled<'a> {
+    /// The opened valuation.
+    pub fn open(
+        alloc: Global,
+        ranked: &'a Ranked<'a>,
+        opening: &Opening,
+    ) -> Result<Settled<'a>, NoMemory>
+        requires { Opens ranked.now.design opening.now }
+        ensures design { IfOk result (λ s. s.parts ≡ ranked.now.design) }
+        ensures opened { IfOk result (λ s. IsOpened ranked.now.design (stands_for opening.now) (valuation s)) }
+    {
+        let design = ranked.design();
+        design.stands();
+        let bases = bases_of(alloc, design)?;
+        let mut words = vec![in alloc; 0; bases[design.mems() as usize]]?;
+        let mut states = vec![in alloc; false; design.nets() as usize]?;
+        let mut nets = vec![in alloc; false; design.nets() as usize]?;
+        fill_opened(ranked, &bases, opening, &mut states, &mut nets, &mut words);
+        Ok(Settled {
+            ranked,
+            nets,
+            next: states,
+            bases,
+            words,
+        })
+    }
+
+    /// Goes to the valuation after an event that gives these values. Takes no memory. Where a net is given
+    /// two values, the later one counts.
+    pub fn event(&mut self, values: &PortValues)
+        requires { AreInputs self.old.parts values.now }
+        ensures design { self.new.parts ≡ self.old.parts }
+        ensures after { IsAfter self.old.parts (valuation self.old) values.now (valuation self.new) }
+    {
+        fill_next(
+            self.ranked,
+            &self.bases,
+            values,
+            self.nets.as_slice(),
+            &mut self.next,
+            &mut self.words,
+        );
+        mem::swap(&mut self.nets, &mut self.next);
+    }
+
+    /// The value of a net.
+    pub fn value(&self, net: NetId) -> bool
+        requires { net.place < net_count self.now.parts }
+        ensures { result ≡ (valuation self.now).net net.place }
+    {
+        self.nets[net.place() as usize]
+    }
+
+    /// The word of a memory at an address.
+    pub fn word(&self, mem: MemId, address: u32) -> u128
+        requires { IsAddress self.now.parts mem.place address }
+        ensures { result ≡ (valuation self.now).word mem.place address }
+    {
+        word_at(&self.bases, &self.words, mem, address)
+    }
+}
+
+/// Fills tables of zeros with the opened valuation, and one more with the states on the way there.
+fn fill_opened(
+    ranked: &Ranked<'_>,
+    bases: &[usize],
+    opening: &Opening,
+    states: &mut [bool],
+    nets: &mut [bool],
+    words: &mut [u128],
+)
+    requires bases { AreBases ranked.now.design bases.now }
+    requires opening { Opens ranked.now.design opening.now }
+    requires states { states.old ≡ replicate (net_count ranked.now.design) false }
+    requires nets { nets.old ≡ replicate (net_count ranked.now.design) false }
+    requires words { words.old ≡ replicate (word_count ranked.now.design) 0 }
+    ensures { IsOpened ranked.now.design (stands_for opening.now) (holding ranked.now.design nets.new words.new) }
+{
+    let design = ranked.design();
+    design.stands();
+    set_states(design, opening.ones.as_slice(), states);
+    put_values(opening.inputs.as_slice(), nets);
+    put_words(design, bases, opening.words.as_slice(), words);
+    run_pass(ranked, bases, Turn::Opening, states, nets, words);
+}
+
+/// Fills tables with the valuation after an event that gives these values.
+fn fill_next(
+    ranked: &Ranked<'_>,
+    bases: &[usize],
+    values: &PortValues,
+    old: &[bool],
+    new: &mut [bool],
+    words: &mut [u128],
+)
+    requires bases { AreBases ranked.now.design bases.now }
+    requires inputs { AreInputs ranked.now.design values.now }
+    requires old_size { length old.now ≡ net_count ranked.now.design }
+    requires new_size { length new.old ≡ net_count ranked.now.design }
+    requires room { length words.old ≡ word_count ranked.now.design }
+    ensures { IsAfter ranked.now.design (holding ranked.now.design old.now words.old) values.now (holding ranked.now.design new.new words.new) }
+{
+    ranked.design().stands();
+    new.copy_from_slice(old);
+    put_values(values.as_slice(), new);
+    run_pass(ranked, bases, Turn::Event, old, new, words);
+}
