@@ -6,7 +6,6 @@ ghost use Rattle.design_core.specs.Plain.{IsPlain};
 ghost use Rattle.emu_machine.specs.Law.{MapFits};
 ghost use Rattle.emu_machine.specs.Netlist.{IsNetlist};
 ghost use Rattle.emu_machine.specs.Plain.{IsPlainResults};
-ghost use Rattle.schedule_check.specs.Verdict.{IsRight, plain_case};
 ghost use Rattle.emu_app.specs.Answers.{JudgeMeans};
 ghost use Rattle.emu_app.specs.Cases.{JudgesAll};
 ghost use Rattle.emu_app.specs.Command.{text_count};
@@ -22,7 +21,7 @@ use accepted_law::acceptance::accepted_agrees;
 use design_core::Design;
 use emu_io::{List, NoMemory, Text};
 use emu_machine::Results;
-use schedule_check::Verdict;
+use schedule_check::{Verdict, judge};
 use std::alloc::Global;
 
 /// Reads the texts and judges the case that they stand for.
@@ -87,12 +86,4 @@ fn texts_tell_cases_apart()
     result_files::plain_netlists_are_told_apart();
     result_files::plain_schedules_are_told_apart();
     result_files::plain_maps_are_told_apart();
-}
-
-// TEMPORARY
-fn judge(alloc: Global, design: &Design, room: u64, slots: u32, results: &Results) -> Result<Verdict, NoMemory>
-    ensures { IfOk result (IsRight (plain_case design.now room slots results.now)) }
-{
-    let _all = (alloc, design, room, slots, results);
-    Ok(Verdict::Accepted)
 }
