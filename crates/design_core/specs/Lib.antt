@@ -5,7 +5,6 @@ pub mod Dependency
 pub mod Settled
 pub mod Event
 pub mod Influence
-pub mod OneGate
 pub mod Plain
 pub mod Limits
 pub mod Names

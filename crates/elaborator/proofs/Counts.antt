@@ -8,7 +8,7 @@ use Rattle.verilog_lex.specs.declared.token.Token.{Token}
 use Rattle.verilog_tree.specs.declared.source.Source.{Source}
 use Rattle.design_core.specs.Design.{port_bits}
 use Rattle.design_core.specs.Limits.{IsCountable, IsWithin}
-use Rattle.design_core.specs.OneGate.{top_name}
+use Rattle.elaborator.specs.GateParts.{top_name}
 use Rattle.design_core.specs.declared.parts.Parts.{Parts}
 use Rattle.elaborator.specs.declared.gate_sketch.Primitive.{Primitive}
 use Rattle.elaborator.specs.declared.gate_sketch.Sketch.{Sketch}

@@ -8,7 +8,7 @@ use Rattle.std.proofs.lemmas.List.{length-map}
 use Rattle.std.proofs.lemmas.Option.{slice_get-map, slice_get_within}
 use Rattle.id_arena.specs.Names.{place_among}
 use Rattle.id_arena.proofs.FirstPlaces.{place_among-Some}
-use Rattle.design_core.specs.OneGate.{top_name}
+use Rattle.elaborator.specs.GateParts.{top_name}
 use Rattle.design_core.specs.Plain.{IsPlainOp}
 use Rattle.design_core.specs.Faults.{AreGood, are_there, element_good, inputs_fit, parent_earlier, ports_there, rest_good, scope_there, thing_good}
 use Rattle.design_core.specs.Design.{net_count}

@@ -3,7 +3,7 @@ use Rattle.std.proofs.Common.{◌≡◌, ◌≤◌, ℕ, Bool, true, ◌&&◌, c
 use Rattle.std.specs.Prelude.{filter}
 use Rattle.std.specs.List.{list_all}
 use Rattle.std.proofs.lemmas.List.{length-map, map-append}
-use Rattle.design_core.specs.OneGate.{top_name}
+use Rattle.elaborator.specs.GateParts.{top_name}
 use Rattle.design_core.specs.Limits.{IsWithin, inputs_within, most_inputs}
 use Rattle.design_core.specs.declared.operation.Op.{Op}
 use Rattle.design_core.specs.declared.operation.Op.TheVariants.{Table}

@@ -1,7 +1,6 @@
 pub mod Built
 pub mod Counts
 pub mod GoodParts
-pub mod Guesses
 pub mod Joining
 pub mod NoConstants
 pub mod OneReading

@@ -4,15 +4,19 @@ use Rattle.std.specs.Prelude.{◌+◌, ℕ, Bool, IsTrue, Option, Some, None, Li
 use Rattle.std.specs.Option.{option_map_or}
 use Rattle.id_arena.specs.Names.{place_among}
 use Rattle.id_arena.specs.declared.keys.NetId.{NetId}
-use Rattle.design_core.specs.OneGate.{top_name}
 use Rattle.design_core.specs.declared.element.Element.{Element}
 use Rattle.design_core.specs.declared.element.Element.TheVariants.{Gate}
+use Rattle.design_core.specs.declared.parts.NetName.{NetName}
 use Rattle.design_core.specs.declared.parts.Parts.{Parts}
 use Rattle.design_core.specs.declared.parts.Port.{Port}
 use Rattle.design_core.specs.declared.parts.Scope.{Scope}
 use Rattle.elaborator.specs.declared.gate_sketch.Primitive.{Primitive}
 use Rattle.elaborator.specs.declared.gate_sketch.Sketch.{Sketch}
 use Rattle.elaborator.specs.GateNames.{AreDifferent, Name, all_among, first_uses, is_among, none_among}
+
+-- the name of a net of the top, which is no bit of a vector
+abbrev pub top_name : Name → NetName
+top_name name = record { scope = 0; name = name; index = None }
 
 -- the terminals of primitives in the order of the text
 abbrev pub terminals : List Primitive → List ℕ

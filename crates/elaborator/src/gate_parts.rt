@@ -1,7 +1,7 @@
 //! The parts that a module of `buf` and `not` gates stands for.
 
 ghost use Rattle.std.specs.Prelude.{[], ◌++◌, ◌≡◌, ◌≤◌, ◌∷◌, Some, None, codes, filter, filter_map, flat_map, length, map, IfOk, OnOk};
-ghost use Rattle.design_core.specs.OneGate.{top_name};
+ghost use Rattle.elaborator.specs.GateParts.{top_name};
 ghost use Rattle.elaborator.specs.GateNames.{is_among, is_implicit, text_of};
 ghost use Rattle.elaborator.specs.GateParts.{element_of, net_of, own_names, own_scope, path_of, port_of, ports_among, scope_of, terminals};
 

@@ -1,7 +1,8 @@
 //! From a Verilog text to the design that it describes.
 //!
-//! So far one kind of design is read: a module with one input port, one output port, and one gate
-//! from the one to the other. `specs/OneGateText.antt` says which texts describe it.
+//! So far one kind of design is read: one module of names without ranges and of `buf` and `not` gates,
+//! of any size. `specs/GateDesign.antt` says which trees describe it; the answer is the design, or that
+//! the tree describes none.
 #![tactic(auto)]
 
 mod fault;
@@ -9,14 +10,6 @@ mod gate_design;
 mod gate_names;
 mod gate_parts;
 mod gate_sketch;
-mod item_order;
-mod one_gate_guess;
-mod one_gate_text;
-mod one_gate_words;
 
 pub use fault::ElabFault;
 pub use gate_design::{gate_designs_are_plain, read_gates, trees_tell_designs_apart};
-pub use one_gate_text::{one_gate_texts_are_told_apart, read_one_gate};
-
-#[cfg(test)]
-mod tests;

@@ -6,5 +6,4 @@ pub mod Origins
 pub mod Acceptance
 pub mod Headline
 pub mod Law
-pub mod OneAction
 pub mod Plain

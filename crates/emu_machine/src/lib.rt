@@ -7,14 +7,12 @@
 
 mod map;
 mod netlist;
-mod one_action;
 mod place;
 mod results;
 mod schedule;
 
 pub use map::{ChipMap, MemMap, Spot, StateMap, Subject};
 pub use netlist::{Chip, EmuGate, EmuMemory, EmuRead, EmuRegister, EmuWrite};
-pub use one_action::OneAction;
 pub use place::{Place, Thing};
 pub use results::Results;
 pub use schedule::{Action, Frame, Schedule, Slot};

@@ -1,5 +1,4 @@
 pub mod Inside
-pub mod MapParts
 pub mod Entries
 pub mod Refusals
 pub mod Schedules

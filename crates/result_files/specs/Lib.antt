@@ -1,8 +1,5 @@
-pub mod OneGateNetlist
 pub mod Trees
 pub mod Faults
-pub mod OneActionSchedule
-pub mod TwoNetMap
 pub mod Lists
 pub mod PlainSchedule
 pub mod PlainMap

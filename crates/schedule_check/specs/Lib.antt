@@ -1,5 +1,3 @@
-pub mod OneGateCase
-pub mod Facts
 pub mod Verdict
 pub mod Actions
 pub mod Mapped

@@ -1,19 +1,16 @@
 //! The judge of results, which trusts nothing of how they were made.
 //!
-//! So far it judges the plainest results: those of one gate and one register on one chip, with one
-//! frame of one action. Its contract is that it says yes exactly where the rules A1 to A12 hold, and
-//! that a yes means the headline: the machine agrees with the design after every event, for every
-//! opening and every list of events.
+//! So far it judges plain results: one chip of `buf` and `not` gates and of registers without D, of any
+//! size, and frames of `input` actions. Its contract is that it answers Accepted exactly where the rules
+//! A1 to A12 hold, and else the first rule that fails.
 #![tactic(auto)]
 
 mod actions;
 mod cycles;
 mod ends;
-pub mod facts;
 mod frames;
 mod judging;
 mod mapped;
-mod one_gate;
 mod origins;
 mod outputs;
 mod plain_case;
@@ -23,7 +20,6 @@ mod verdict;
 mod weights;
 
 pub use judging::judge;
-pub use one_gate::{accepted_agrees, is_accepted};
 pub use verdict::{Rule, Verdict};
 
 #[cfg(test)]

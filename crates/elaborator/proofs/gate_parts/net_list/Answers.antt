@@ -1,4 +1,4 @@
-use Rattle.design_core.specs.OneGate.{top_name}
+use Rattle.elaborator.specs.GateParts.{top_name}
 use Rattle.elaborator.proofs.Places.{read_on}
 use Rattle.elaborator.proofs.gate_parts.net_list.Goals as goal
 

@@ -1,6 +1,6 @@
 use Rattle.std.proofs.Common.{◌++◌, ◌∷◌, ◌≡◌, drop, map}
 use Rattle.std.specs.Prelude.{codes}
-use Rattle.design_core.specs.OneGate.{top_name}
+use Rattle.elaborator.specs.GateParts.{top_name}
 use Rattle.elaborator.proofs.gate_parts.net_list.Given as goal
 
 abbrev pub invariant-nets : goal.invariant-nets
