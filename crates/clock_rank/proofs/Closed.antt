@@ -1,5 +1,5 @@
 -- What a node depends on is a node of the design.
-use Rattle.std.proofs.Common.{◌≡◌, ◌<◌, ◌+◌, ℕ, zero, suc, true, List, [], ◌∷◌, ◌++◌, map, length, refl, arith}
+use Rattle.std.proofs.Common.{◌≡◌, ◌+◌, ℕ, zero, suc, List, [], ◌∷◌, map, length, refl, arith}
 use Rattle.std.specs.Prelude.{Option, Some, None, slice_get}
 use Rattle.std.specs.List.{Contains, enumerate_from}
 use Rattle.id_arena.specs.declared.keys.NetId.{NetId}
@@ -14,7 +14,7 @@ use Rattle.design_core.specs.declared.element.Driver.TheVariants.{Constant, Inpu
 use Rattle.design_core.specs.declared.node.NodeId.{NodeId}
 use Rattle.design_core.specs.declared.node.NodeId.TheVariants.{Net, Write}
 use Rattle.design_core.specs.declared.parts.Parts.{Parts}
-use Rattle.design_core.specs.Design.{IsDesign, net_count, driver, element_reads, write_reads}
+use Rattle.design_core.specs.Design.{IsDesign, driver, element_reads, write_reads}
 use Rattle.design_core.specs.Dependency.{IsNode, dependencies, driver_needs, needs, needs_at, read_needs, read_needs_at, write_nodes, write_needs, write_needs_at, write_before}
 use Rattle.history_law.proofs.Ranges.{Each, InRange, each_both, each_in, within_each, element_within, write_within, read_within}
 

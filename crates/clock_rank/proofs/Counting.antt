@@ -1,5 +1,5 @@
 -- How many write ports there are.
-use Rattle.std.proofs.Common.{◌≡◌, ◌<◌, ◌≤◌, ◌+◌, ◌*◌, ◌^◌, ℕ, zero, suc, Bool, true, ◌&&◌, List, [], ◌∷◌, Some, length, refl, ap, sym, ◌∙◌, arith}
+use Rattle.std.proofs.Common.{◌≡◌, ◌<◌, ◌≤◌, ◌+◌, ◌*◌, ◌^◌, ℕ, zero, suc, Bool, true, ◌&&◌, List, [], ◌∷◌, Some, length, arith}
 use Rattle.std.specs.Prelude.{slice_get, nat_lt, nat_le}
 use Rattle.std.specs.List.{list_all, sum_by}
 use Rattle.std.proofs.lemmas.Bool.{and_parts, leb-true}
@@ -8,8 +8,8 @@ use Rattle.std.proofs.lemmas.Nat.{pow_pos}
 use Rattle.std.proofs.lemmas.Option.{slice_get_within}
 use Rattle.design_core.specs.declared.element.Memory.{Memory}
 use Rattle.design_core.specs.declared.parts.Parts.{Parts}
-use Rattle.design_core.specs.Design.{IsDesign, net_count, memory_fits}
-use Rattle.design_core.specs.Limits.{IsWithin, word_count}
+use Rattle.design_core.specs.Design.{IsDesign, memory_fits}
+use Rattle.design_core.specs.Limits.{IsWithin}
 use Rattle.clock_rank.specs.Numbers.{writes_before, first_write, AreStarts}
 
 pub before_more : (ms : List Memory) (m : ℕ) (memory : Memory) → slice_get ms m ≡ Some memory

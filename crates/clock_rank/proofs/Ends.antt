@@ -1,5 +1,5 @@
 -- What the ranking of a design answers, from what the ranking of its graph answers.
-use Rattle.std.proofs.Common.{◌≡◌, ◌<◌, ◌≤◌, ◌+◌, ◌^◌, ℕ, List, [], ◌∷◌, ◌++◌, Some, map, length, get_or, refl, ap, sym, ◌∙◌, subst, arith, length-append}
+use Rattle.std.proofs.Common.{◌≡◌, ◌<◌, ◌≤◌, ◌+◌, ℕ, List, [], ◌∷◌, ◌++◌, map, length, get_or, ap, ◌∙◌, arith, length-append}
 use Rattle.std.specs.List.{All}
 use Rattle.std.proofs.lemmas.List.{get_or_read, get_or_default, get_or_append_left, get_or-append-add}
 use Rattle.std.proofs.lemmas.Option.{slice_get_within}
@@ -15,7 +15,7 @@ use Rattle.graph_rank.specs.Cycles as cycles
 use Rattle.graph_rank.specs.Answers.{RanksAreUnique}
 use Rattle.clock_rank.specs.Orders.{IsInOrder}
 use Rattle.clock_rank.specs.Cycles.{IsCycle}
-use Rattle.clock_rank.specs.Numbers.{net_node, all_nodes, number_of, node_at, rows, first_write, AreStarts}
+use Rattle.clock_rank.specs.Numbers.{net_node, all_nodes, number_of, node_at, rows, AreStarts}
 use Rattle.clock_rank.proofs.Counting.{start_fits}
 use Rattle.clock_rank.proofs.Numbering.{number_at}
 use Rattle.clock_rank.proofs.Steps.{start_is}

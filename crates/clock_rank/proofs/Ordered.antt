@@ -1,16 +1,15 @@
 -- Laws of ranks and orders of a design.
-use Rattle.std.proofs.Common.{◌≡◌, ◌<◌, ◌≤◌, ◌+◌, ◌-◌, ℕ, zero, suc, max, List, [], ◌∷◌, ◌++◌, Some, None, Option, length, get_or, refl, ap, sym, ◌∙◌, subst, arith, ◌⊎◌, inl, inr, length-append}
+use Rattle.std.proofs.Common.{◌≡◌, ◌<◌, ◌≤◌, ◌+◌, ◌-◌, ℕ, zero, suc, List, [], ◌∷◌, ◌++◌, Some, length, get_or, sym, ◌∙◌, subst, arith, ◌⊎◌, inl, inr, length-append}
 use Rattle.std.specs.Prelude.{slice_get}
 use Rattle.std.specs.List.{Contains}
 use Rattle.std.proofs.lemmas.Bool.{cases_lt}
 use Rattle.std.proofs.lemmas.Option.{slice_get_within, slice_get-get_or}
 use Rattle.design_core.specs.declared.node.NodeId.{NodeId}
 use Rattle.design_core.specs.declared.parts.Parts.{Parts}
-use Rattle.design_core.specs.Dependency.{dependencies, IsNode, above, HasRank, IsRanked, Precedes}
+use Rattle.design_core.specs.Dependency.{dependencies, HasRank, Precedes}
 use Rattle.design_core.specs.Dependency.HasRank.{ranked}
 use Rattle.history_law.proofs.Ranges.{below_above}
-use Rattle.clock_rank.specs.Orders.{ComesBefore, IsInOrder}
-use Rattle.clock_rank.specs.Cycles.{IsCycle}
+use Rattle.clock_rank.specs.Orders.{IsInOrder}
 use Rattle.clock_rank.specs.Numbers.{net_node}
 use Rattle.clock_rank.specs.Answers.{RanksAreUnique, OrdersAreSorted, CyclesAreUnranked}
 use Rattle.clock_rank.proofs.Relating.{above_same}

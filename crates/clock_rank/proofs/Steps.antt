@@ -1,7 +1,7 @@
 -- Steps of the loops that number nodes and collect their needs.
-use Rattle.std.proofs.Common.{◌≡◌, ◌<◌, ◌≤◌, ◌+◌, ◌-◌, ◌^◌, ◌⊎◌, inl, inr, ℕ, zero, suc, List, [], ◌∷◌, ◌++◌, Some, None, Option, map, length, get_or, take, refl, ap, sym, ◌∙◌, subst, arith, append_assoc, length-append}
+use Rattle.std.proofs.Common.{◌≡◌, ◌<◌, ◌≤◌, ◌+◌, ◌-◌, ◌⊎◌, inl, inr, ℕ, zero, suc, List, [], ◌∷◌, ◌++◌, Some, None, Option, map, length, get_or, take, refl, ap, sym, ◌∙◌, arith, append_assoc, length-append}
 use Rattle.std.specs.Prelude.{slice_get, option_to_list}
-use Rattle.std.specs.List.{All, Contains, range_with_len}
+use Rattle.std.specs.List.{range_with_len}
 use Rattle.std.proofs.lemmas.List.{append-nil, map-append, get_or_append_left, get_or_push, length-map, length-take-le}
 use Rattle.std.proofs.lemmas.List.FromFn.{map-range_with_len_more}
 use Rattle.std.proofs.lemmas.Bool.{cases_lt}
@@ -19,12 +19,12 @@ use Rattle.design_core.specs.declared.element.Driver.TheVariants.{Constant, Inpu
 use Rattle.design_core.specs.declared.node.NodeId.{NodeId}
 use Rattle.design_core.specs.declared.node.NodeId.TheVariants.{Net, Write}
 use Rattle.design_core.specs.declared.parts.Parts.{Parts}
-use Rattle.design_core.specs.Design.{IsDesign, net_count, driver, reset_nets}
+use Rattle.design_core.specs.Design.{IsDesign, driver, reset_nets}
 use Rattle.design_core.specs.Limits.{IsWithin}
 use Rattle.history_law.specs.Drivers.{DriverIsElement, DriverIsReadBit}
-use Rattle.design_core.specs.Dependency.{IsNode, dependencies, needs, needs_at, driver_needs, read_needs, read_needs_at, write_nodes, write_before, write_needs, write_needs_at}
-use Rattle.clock_rank.specs.Numbers.{net_node, port_nodes, memory_nodes, all_nodes, writes_before, first_write, number_of, node_at, row_of, AreStarts, IsThere}
-use Rattle.clock_rank.proofs.Counting.{before_more, before_grows, few_nodes, start_fits}
+use Rattle.design_core.specs.Dependency.{IsNode, needs, needs_at, driver_needs, read_needs, read_needs_at, write_nodes, write_before, write_needs, write_needs_at}
+use Rattle.clock_rank.specs.Numbers.{net_node, port_nodes, memory_nodes, all_nodes, first_write, number_of, row_of, AreStarts, IsThere}
+use Rattle.clock_rank.proofs.Counting.{before_more, few_nodes, start_fits}
 use Rattle.clock_rank.proofs.Numbering.{at_number, node_count, nodes_more, write_nodes_are}
 
 -- one more of a list that is built by number

@@ -1,10 +1,7 @@
 -- The numbers of nodes: nets by number, then write nodes by memory and port.
 use Rattle.std.specs.Prelude.{◌≡◌, ◌<◌, ◌+◌, ◌^◌, ℕ, zero, suc, List, [], ◌∷◌, ◌++◌, map, length, slice_index, slice_index_or, slice_get, Some}
 use Rattle.std.specs.List.{range_with_len}
-use Rattle.id_arena.specs.declared.keys.NetId.{NetId}
-use Rattle.id_arena.specs.declared.keys.MemId.{MemId}
 use Rattle.design_core.specs.declared.element.Memory.{Memory}
-use Rattle.design_core.specs.declared.element.Element.{Element}
 use Rattle.design_core.specs.declared.element.ReadPort.{ReadPort}
 use Rattle.design_core.specs.declared.element.Driver.{Driver}
 use Rattle.design_core.specs.declared.element.Driver.TheVariants.{Constant, Input, Elem, Read}

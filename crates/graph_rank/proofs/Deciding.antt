@@ -1,5 +1,5 @@
 -- In a graph in which some node has no rank, some node depends on itself.
-use Rattle.std.proofs.Common.{◌≡◌, ◌<◌, ◌≤◌, ◌+◌, ℕ, zero, suc, Bool, true, false, cond, not, Option, Some, None, List, [], ◌∷◌, length, get_or, set, replicate, refl, ap, sym, ◌∙◌, subst, arith, ◌⊎◌, inl, inr}
+use Rattle.std.proofs.Common.{◌≡◌, ◌<◌, ◌≤◌, ℕ, zero, suc, Bool, true, false, cond, not, Option, Some, None, List, [], ◌∷◌, length, get_or, set, replicate, refl, ap, sym, ◌∙◌, subst, arith, ◌⊎◌, inl, inr}
 use Rattle.std.specs.Prelude.{unwrap_or}
 use Rattle.std.specs.List.{Contains, count_by}
 use Rattle.std.specs.Option.{is_none}
@@ -10,7 +10,6 @@ use Rattle.graph_rank.specs.Rows.{row, InRange, Leads}
 use Rattle.graph_rank.specs.Rows.Leads.{step, through}
 use Rattle.graph_rank.specs.Ranks.{above, HasRank}
 use Rattle.graph_rank.specs.Ranks.HasRank.{ranked as has}
-use Rattle.graph_rank.specs.Cycles.{Unranked}
 use Rattle.graph_rank.specs.Answers.{UnrankedHasCycle}
 
 -- one step more

@@ -1,5 +1,5 @@
 -- The search ranks the last node of the trail, or leaves the trail.
-use Rattle.std.proofs.Common.{◌≡◌, ◌≢◌, ◌<◌, ◌≤◌, ◌+◌, ◌-◌, ◌*◌, ℕ, zero, suc, Bool, true, false, List, [], ◌∷◌, ◌++◌, length, get_or, set, take, refl, ap, sym, ◌∙◌, subst, arith, ◌⊎◌, inl, inr, if◌then◌else◌, length-append}
+use Rattle.std.proofs.Common.{◌≡◌, ◌≢◌, ◌<◌, ◌≤◌, ◌+◌, ◌-◌, ℕ, Bool, true, false, List, [], ◌∷◌, ◌++◌, length, get_or, set, take, refl, ap, sym, ◌∙◌, subst, arith, ◌⊎◌, inl, inr, if◌then◌else◌}
 use Rattle.std.specs.List.{All, Contains, count_by}
 use Rattle.std.proofs.lemmas.List.Elements.{Contains-get_or}
 use Rattle.std.proofs.lemmas.List.Sums.{count_by-le-length}
@@ -7,10 +7,10 @@ use Rattle.std.proofs.lemmas.Bool.{cases_eq, cases_lt}
 use Rattle.std.proofs.lemmas.List.{length-set, length-take-le, get_or-take, get_or_default}
 use Rattle.graph_rank.specs.declared.search.Mark.{Mark}
 use Rattle.graph_rank.specs.declared.search.Mark.TheVariants.{Fresh, Met, Ranked}
-use Rattle.graph_rank.specs.Rows.{row, InRange}
+use Rattle.graph_rank.specs.Rows.{row}
 use Rattle.graph_rank.specs.Ranks.{HasRank, above}
 use Rattle.graph_rank.specs.Ranks.HasRank.{ranked as has}
-use Rattle.graph_rank.specs.Search.{fresh, ranked, rank_of, mark_at, rank_at, RankedBelow, IsStuck, IsSearch, IsStep, IsLast, Keeps, weight, AreMarks}
+use Rattle.graph_rank.specs.Search.{fresh, ranked, rank_of, mark_at, rank_at, RankedBelow, IsStuck, IsSearch, IsStep, IsLast, Keeps}
 use Rattle.graph_rank.proofs.Marks.{stands_in, place_in, mark_same, mark_other, above_low, ranked_one_more, fresh_as_many, is_fresh, is_met}
 use Rattle.graph_rank.proofs.Searches.{entered, further, needs_in_range, last_in_range, last_met, not_last}
 

@@ -1,14 +1,12 @@
 -- Marks of nodes, and what one more mark changes.
-use Rattle.std.proofs.Common.{◌≡◌, ◌≢◌, ◌<◌, ◌≤◌, ◌+◌, ℕ, zero, suc, Bool, true, false, cond, max, List, [], ◌∷◌, length, get_or, set, refl, ap, sym, ◌∙◌, subst, arith, ◌⊎◌, inl, inr}
+use Rattle.std.proofs.Common.{◌≡◌, ◌≢◌, ◌<◌, ◌≤◌, ◌+◌, ℕ, suc, Bool, true, false, cond, List, [], ◌∷◌, length, get_or, set, refl, ◌∙◌, arith}
 use Rattle.std.specs.List.{Contains, count_by}
-use Rattle.std.proofs.lemmas.Bool.{cases_eq}
 use Rattle.std.proofs.lemmas.List.Sums.{sum_by-set}
-use Rattle.std.proofs.lemmas.List.{get_or-set_same, get_or-set_other, get_or_default, length-set}
+use Rattle.std.proofs.lemmas.List.{get_or-set_same, get_or-set_other, get_or_default}
 use Rattle.graph_rank.specs.declared.search.Mark.{Mark}
 use Rattle.graph_rank.specs.declared.search.Mark.TheVariants.{Fresh, Met, Ranked}
-use Rattle.graph_rank.specs.Rows.{row, InRange}
 use Rattle.graph_rank.specs.Ranks.{above}
-use Rattle.graph_rank.specs.Search.{fresh, ranked, rank_of, mark_at, rank_at}
+use Rattle.graph_rank.specs.Search.{fresh, ranked, mark_at}
 
 -- a list contains what stands at a place of it
 pub stands_in : (xs : List ℕ) (k : ℕ) → k < length xs → Contains xs (get_or xs k 0)

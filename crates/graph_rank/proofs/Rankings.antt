@@ -1,5 +1,5 @@
 -- Laws of ranks: they are unique, they fall along dependencies, and what this says of order and cycles.
-use Rattle.std.proofs.Common.{◌≡◌, ◌≢◌, ◌<◌, ◌≤◌, ◌+◌, ◌-◌, ℕ, zero, suc, max, Bool, true, false, List, [], ◌∷◌, ◌++◌, map, length, get_or, refl, ap, sym, ◌∙◌, subst, arith, ◌⊎◌, inl, inr, length-append}
+use Rattle.std.proofs.Common.{◌≡◌, ◌<◌, ◌≤◌, ◌+◌, ◌-◌, ℕ, zero, suc, true, false, List, [], ◌∷◌, ◌++◌, length, get_or, refl, ap, sym, ◌∙◌, arith, ◌⊎◌, inl, inr, length-append}
 use Rattle.std.specs.List.{Contains}
 use Rattle.std.proofs.lemmas.Bool.{cases_lt}
 use Rattle.std.proofs.lemmas.List.{get_or_past, get_or-map, length-map, get_or_append_left, get_or-append-add, get_or_push}
@@ -7,11 +7,11 @@ use Rattle.graph_rank.specs.declared.search.Mark.{Mark}
 use Rattle.graph_rank.specs.declared.search.Mark.TheVariants.{Fresh}
 use Rattle.graph_rank.specs.Rows.{row, Leads}
 use Rattle.graph_rank.specs.Rows.Leads.{step, through}
-use Rattle.graph_rank.specs.Ranks.{above, HasRank, AllRanked, ComesBefore, Ranking, IsRanking, IsOrder}
+use Rattle.graph_rank.specs.Ranks.{above, HasRank, ComesBefore, Ranking, IsRanking}
 use Rattle.graph_rank.specs.Ranks.HasRank.{ranked as has}
 use Rattle.graph_rank.specs.Cycles.{IsFirst, IsCycle}
 use Rattle.graph_rank.specs.Search.{ranked, rank_of, mark_at, rank_at, AreMarks}
-use Rattle.graph_rank.specs.Places.{IsInOrder, IsFirstUnranked}
+use Rattle.graph_rank.specs.Places.{IsInOrder}
 use Rattle.graph_rank.specs.Answers.{RanksAreUnique, RankingsAreSorted, RankedHasNoCycle, CyclesComeRound}
 use Rattle.graph_rank.proofs.Walks.{unranked_from, mark_from}
 

@@ -1,16 +1,15 @@
 -- The steps of the search.
-use Rattle.std.proofs.Common.{◌≡◌, ◌≢◌, ◌<◌, ◌≤◌, ◌+◌, ◌-◌, ◌*◌, ℕ, zero, suc, Bool, true, false, List, [], ◌∷◌, ◌++◌, length, get_or, set, take, refl, ap, sym, ◌∙◌, subst, arith, ◌⊎◌, inl, inr, length-append}
-use Rattle.std.specs.List.{All, Contains, count_by}
+use Rattle.std.proofs.Common.{◌≡◌, ◌≢◌, ◌<◌, ◌≤◌, ◌+◌, ◌-◌, ℕ, true, false, List, [], ◌∷◌, ◌++◌, length, get_or, set, refl, ap, sym, ◌∙◌, subst, arith, ◌⊎◌, inl, inr, length-append}
+use Rattle.std.specs.List.{All, Contains}
 use Rattle.std.proofs.lemmas.List.Elements.{Contains-get_or}
 use Rattle.std.proofs.lemmas.Bool.{cases_eq, cases_lt}
-use Rattle.std.proofs.lemmas.List.{length-set, length-take, get_or-take, get_or-set_same, get_or-set_other, get_or_append_left, get_or_push}
-use Rattle.std.proofs.lemmas.List.Sums.{count_by-le-length}
+use Rattle.std.proofs.lemmas.List.{length-set, get_or-set_same, get_or-set_other, get_or_append_left, get_or_push}
 use Rattle.graph_rank.specs.declared.search.Mark.{Mark}
-use Rattle.graph_rank.specs.declared.search.Mark.TheVariants.{Fresh, Met, Ranked}
-use Rattle.graph_rank.specs.Rows.{row, InRange}
-use Rattle.graph_rank.specs.Ranks.{HasRank, above}
-use Rattle.graph_rank.specs.Search.{fresh, ranked, rank_of, mark_at, rank_at, RankedBelow, IsStuck, IsSearch, IsStep, IsLast, Keeps, weight, AreMarks}
-use Rattle.graph_rank.proofs.Marks.{stands_in, place_in, mark_same, mark_other, above_low, ranked_one_more, ranked_as_many, fresh_one_less, fresh_as_many, is_fresh, is_met}
+use Rattle.graph_rank.specs.declared.search.Mark.TheVariants.{Fresh, Met}
+use Rattle.graph_rank.specs.Rows.{row}
+use Rattle.graph_rank.specs.Ranks.{HasRank}
+use Rattle.graph_rank.specs.Search.{fresh, ranked, rank_of, mark_at, rank_at, RankedBelow, IsStuck, IsSearch, IsStep, IsLast, Keeps}
+use Rattle.graph_rank.proofs.Marks.{stands_in, place_in, mark_same, mark_other, ranked_as_many, fresh_one_less}
 
 module _ (rows : List (List ℕ)) (marks : List Mark) (next trail : List ℕ) (s : IsSearch rows marks next trail) where
   -- the last node of the trail, its range and its mark

@@ -1,5 +1,5 @@
 -- Nodes with their ranks, sorted.
-use Rattle.std.proofs.Common.{◌≡◌, ◌≢◌, ◌<◌, ◌≤◌, ◌+◌, ℕ, zero, suc, Bool, true, false, List, [], ◌∷◌, map, length, get_or, refl, ap, sym, ◌∙◌, subst, arith, ◌⊎◌, inl, inr, IsPermutation, is_lt, nat_cmp}
+use Rattle.std.proofs.Common.{◌≡◌, ◌≢◌, ◌<◌, ◌≤◌, ◌+◌, ℕ, false, List, map, length, get_or, refl, ap, sym, ◌∙◌, subst, arith, ◌⊎◌, inl, inr, IsPermutation, is_lt, nat_cmp}
 use Rattle.std.specs.List as lists
 use Rattle.std.specs.List.{All, Contains}
 use Rattle.std.specs.Ordering.{MatchOrdering, ordering_then}
@@ -13,8 +13,8 @@ use Rattle.std.proofs.lemmas.List.Sorted.{All-permutation, Contains-permutation,
 use Rattle.graph_rank.specs.declared.search.Mark.{Mark}
 use Rattle.graph_rank.specs.declared.search.Mark.TheVariants.{Fresh}
 use Rattle.graph_rank.specs.declared.order.Place.{Place}
-use Rattle.graph_rank.specs.Ranks.{ComesBefore, Ranking}
-use Rattle.graph_rank.specs.Search.{rank_of, mark_at, rank_at}
+use Rattle.graph_rank.specs.Ranks.{ComesBefore}
+use Rattle.graph_rank.specs.Search.{rank_of, rank_at}
 use Rattle.graph_rank.specs.Places.{place_of, ArePlaces, IsInOrder}
 
 -- what the order of pairs says of two places of different nodes

@@ -1,5 +1,5 @@
 -- The walk from the least node without rank to the cycle.
-use Rattle.std.proofs.Common.{◌≡◌, ◌≢◌, ◌<◌, ◌≤◌, ◌+◌, ◌-◌, ◌^◌, ℕ, zero, suc, Bool, true, false, cond, Option, Some, None, List, [], ◌∷◌, ◌++◌, length, get_or, set, take, drop, refl, ap, sym, ◌∙◌, subst, arith, ◌⊎◌, inl, inr, length-append}
+use Rattle.std.proofs.Common.{◌≡◌, ◌≢◌, ◌<◌, ◌≤◌, ◌+◌, ◌-◌, ◌^◌, ℕ, Bool, true, false, cond, Option, Some, None, List, [], ◌∷◌, ◌++◌, length, get_or, set, take, drop, refl, ap, sym, ◌∙◌, subst, arith, ◌⊎◌, inl, inr, length-append}
 use Rattle.std.specs.List.{All, Contains, count_by}
 use Rattle.std.specs.Option.{is_none}
 use Rattle.std.proofs.lemmas.Bool.{cases_eq, cases_lt}
@@ -7,13 +7,13 @@ use Rattle.std.proofs.lemmas.List.{length-set, get_or-set_same, get_or-set_other
 use Rattle.std.proofs.lemmas.List.Elements.{Contains-get_or}
 use Rattle.std.proofs.lemmas.List.Sums.{sum_by-set}
 use Rattle.graph_rank.specs.declared.search.Mark.{Mark}
-use Rattle.graph_rank.specs.Rows.{row, InRange}
+use Rattle.graph_rank.specs.Rows.{row}
 use Rattle.graph_rank.specs.Ranks.{HasRank}
 use Rattle.graph_rank.specs.Ranks.HasRank.{ranked as has}
 use Rattle.graph_rank.specs.Cycles.{Unranked, IsFirst, IsNext, IsWalk, AreDistinct, IsCycle}
-use Rattle.graph_rank.specs.Search.{ranked, mark_at, rank_at, AreMarks}
+use Rattle.graph_rank.specs.Search.{ranked, mark_at, AreMarks}
 use Rattle.graph_rank.specs.Walk.{IsLeastUnranked, IsWalking}
-use Rattle.graph_rank.proofs.Marks.{stands_in, place_in}
+use Rattle.graph_rank.proofs.Marks.{place_in}
 
 -- the marks tell the nodes without rank
 pub no_rank : (rows : List (List ℕ)) (marks : List Mark) → AreMarks rows marks → (n k : ℕ)

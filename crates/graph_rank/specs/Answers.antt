@@ -1,6 +1,6 @@
 -- What the ranking of a graph answers, and the laws of ranks and cycles.
 -- The rule is told in docs/RULES.md, "Dependencies and rank".
-use Rattle.std.specs.Prelude.{◌≡◌, ◌<◌, ℕ, List, length, Result, Ok, Err, slice_index}
+use Rattle.std.specs.Prelude.{◌≡◌, ℕ, List, Result, Ok, Err, slice_index}
 use Rattle.graph_rank.specs.declared.fault.GraphFault.{GraphFault}
 use Rattle.graph_rank.specs.declared.fault.GraphFault.TheVariants as fault
 use Rattle.graph_rank.specs.Rows.{InRange, Leads}

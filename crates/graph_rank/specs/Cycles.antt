@@ -1,6 +1,6 @@
 -- The one cycle that is told of a graph in which some node has no rank.
 -- The rule is told in docs/RULES.md, "Dependencies and rank".
-use Rattle.std.specs.Prelude.{◌≡◌, ◌≢◌, ◌<◌, ◌≤◌, ◌+◌, ℕ, List, [], ◌∷◌, ◌++◌, length, Contains, slice_index}
+use Rattle.std.specs.Prelude.{◌≢◌, ◌<◌, ◌≤◌, ◌+◌, ℕ, List, [], ◌∷◌, ◌++◌, length, Contains, slice_index}
 use Rattle.graph_rank.specs.Rows.{row}
 use Rattle.graph_rank.specs.Ranks.{HasRank}
 

@@ -1,5 +1,5 @@
 -- What the walk to the cycle knows at each step.
-use Rattle.std.specs.Prelude.{◌≡◌, ◌≢◌, ◌<◌, ◌≤◌, ◌+◌, ℕ, false, Option, Some, None, List, [], ◌∷◌, ◌++◌, length, Contains, slice_index, slice_index_or}
+use Rattle.std.specs.Prelude.{◌≡◌, ◌<◌, ◌≤◌, ℕ, false, Option, Some, None, List, [], ◌∷◌, ◌++◌, length, Contains, slice_index, slice_index_or}
 use Rattle.graph_rank.specs.declared.search.Mark.{Mark}
 use Rattle.graph_rank.specs.Cycles.{IsWalk}
 use Rattle.graph_rank.specs.Search.{ranked, mark_at}

@@ -1,5 +1,4 @@
-use Rattle.std.proofs.Common.{◌≡◌, ◌≤◌, ◌+◌, ap, sym, subst, ℕ, Some, arith, get_or, length}
-use Rattle.clock_rank.specs.Numbers.{first_write}
+use Rattle.std.proofs.Common.{arith}
 use Rattle.clock_rank.proofs.Counting.{start_fits}
 use Rattle.clock_rank.proofs.Steps.{start_is, read_added}
 use Rattle.clock_rank.proofs.needs.add_read_needs.Goals as goal

@@ -1,8 +1,7 @@
-use Rattle.std.proofs.Common.{◌≡◌, ◌≤◌, ◌+◌, ap, sym, subst, ℕ, Some, arith, get_or, length}
+use Rattle.std.proofs.Common.{arith}
 use Rattle.std.proofs.lemmas.Option.{slice_get_within}
-use Rattle.clock_rank.specs.Numbers.{first_write}
 use Rattle.clock_rank.proofs.Counting.{start_fits}
-use Rattle.clock_rank.proofs.Steps.{start_is, write_added, first_write_added}
+use Rattle.clock_rank.proofs.Steps.{start_is, write_added}
 use Rattle.clock_rank.proofs.needs.add_write_needs.Goals as goal
 
 pub overflow_add-starts : goal.overflow_add-starts

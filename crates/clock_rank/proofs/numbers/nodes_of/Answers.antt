@@ -1,4 +1,4 @@
-use Rattle.std.proofs.Common.{◌≡◌, ap, sym, subst, ℕ, Some, map}
+use Rattle.std.proofs.Common.{◌≡◌, subst, Some, map}
 use Rattle.std.specs.Prelude.{slice_get}
 use Rattle.std.specs.List.{range_with_len}
 use Rattle.id_arena.specs.declared.keys.MemId.{MemId}

@@ -1,8 +1,6 @@
-use Rattle.std.proofs.Common.{◌≡◌, ◌+◌, ap, sym, subst, ℕ, Some, arith, ◌∙◌, refl}
+use Rattle.std.proofs.Common.{◌≡◌, subst, Some, arith}
 use Rattle.std.specs.Prelude.{slice_get}
 use Rattle.id_arena.specs.declared.keys.MemId.{MemId}
-use Rattle.design_core.specs.Design.{net_count}
-use Rattle.clock_rank.specs.Numbers.{first_write}
 use Rattle.clock_rank.proofs.Steps.{starts_none, starts_more, start_step, start_room}
 use Rattle.clock_rank.proofs.numbers.starts_of.Goals as goal
 

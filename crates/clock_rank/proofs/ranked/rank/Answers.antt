@@ -1,4 +1,4 @@
-use Rattle.std.proofs.Common.{◌≡◌, refl, arith, ◌∙◌}
+use Rattle.std.proofs.Common.{refl, ◌∙◌}
 use Rattle.clock_rank.proofs.Ends.{graph_closed, order_is, cycle_named, cycle_is}
 use Rattle.clock_rank.proofs.ranked.rank.Goals as goal
 

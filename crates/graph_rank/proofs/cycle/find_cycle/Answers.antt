@@ -1,4 +1,4 @@
-use Rattle.std.proofs.Common.{◌≡◌, ◌<◌, ◌≤◌, ℕ, Option, Some, None, length, get_or, arith, ◌∙◌}
+use Rattle.std.proofs.Common.{◌≡◌, Some, None, get_or, arith, ◌∙◌}
 use Rattle.graph_rank.proofs.Walks.{read_as, in_places, needs_marked, need_unranked, walks_on, cut_is, none_left}
 use Rattle.graph_rank.proofs.cycle.find_cycle.Goals as goal
 

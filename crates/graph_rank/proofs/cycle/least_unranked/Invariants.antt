@@ -1,4 +1,4 @@
-use Rattle.std.proofs.Common.{◌≡◌, ◌≤◌, ◌<◌, ◌⊎◌, ℕ, false, length, get_or}
+use Rattle.std.proofs.Common.{◌≡◌, ◌≤◌, ◌<◌, ◌⊎◌, ℕ, false, get_or}
 use Rattle.std.specs.List.{Contains}
 use Rattle.graph_rank.specs.Search.{ranked, mark_at}
 use Rattle.graph_rank.proofs.cycle.least_unranked.Given as goal

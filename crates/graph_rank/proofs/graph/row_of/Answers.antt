@@ -1,4 +1,3 @@
-use Rattle.std.proofs.Common.{◌≡◌}
 use Rattle.graph_rank.proofs.Cuts.{row_is}
 use Rattle.graph_rank.proofs.graph.row_of.Goals as goal
 

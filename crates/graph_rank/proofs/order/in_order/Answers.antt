@@ -1,4 +1,3 @@
-use Rattle.std.proofs.Common.{◌≡◌}
 use Rattle.graph_rank.proofs.Sorting.{put_in_order}
 use Rattle.graph_rank.proofs.order.in_order.Goals as goal
 

@@ -1,4 +1,3 @@
-use Rattle.std.proofs.Common.{◌≡◌}
 use Rattle.graph_rank.proofs.Rankings.{ranking_from, first_from}
 use Rattle.graph_rank.proofs.rank.rank_graph.Goals as goal
 

@@ -1,4 +1,4 @@
-use Rattle.std.proofs.Common.{◌≡◌, subst, sym, ap, ◌∙◌, arith}
+use Rattle.std.proofs.Common.{subst, sym, ap, ◌∙◌}
 use Rattle.design_core.specs.Dependency.{IsNode, HasRank}
 use Rattle.clock_rank.specs.Orders.{RankedDesign}
 use Rattle.clock_rank.specs.Numbers.{number_of}

@@ -1,5 +1,4 @@
-use Rattle.std.proofs.Common.{◌≡◌, ◌<◌, ◌++◌, ◌∷◌, [], ℕ, List, length, arith, ap, refl, sym, ◌∙◌}
-use Rattle.graph_rank.specs.Stored.{cut_rows, IsStored}
+use Rattle.std.proofs.Common.{◌≡◌, ◌<◌, ◌++◌, ◌∷◌, [], ℕ, List, length, arith, ap, refl, ◌∙◌}
 use Rattle.graph_rank.proofs.Cuts.{stored_more, rows_more, cut-length}
 use Rattle.graph_rank.proofs.graph.Graph.add_row.Goals as goal
 

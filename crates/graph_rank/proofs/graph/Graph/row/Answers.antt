@@ -1,4 +1,4 @@
-use Rattle.std.proofs.Common.{◌≡◌, length, ap, arith}
+use Rattle.std.proofs.Common.{length, ap, arith}
 use Rattle.graph_rank.proofs.Cuts.{cut-length}
 use Rattle.graph_rank.proofs.graph.Graph.row.Goals as goal
 

@@ -1,6 +1,5 @@
-use Rattle.std.proofs.Common.{◌≡◌, ◌<◌, ◌+◌, ℕ, List, length, refl}
-use Rattle.graph_rank.specs.Search.{IsStep}
-use Rattle.graph_rank.proofs.Finished.{needs_in, lows_in, finishes, follows, need_in_range}
+use Rattle.std.proofs.Common.{refl}
+use Rattle.graph_rank.proofs.Finished.{needs_in, lows_in, finishes, follows}
 use Rattle.graph_rank.proofs.search.Search.step.Goals as goal
 
 pub first_unranked-requires-clause-bounds : goal.first_unranked-requires-clause-bounds

@@ -1,5 +1,4 @@
-use Rattle.std.proofs.Common.{◌≡◌, ◌<◌, ℕ, true, length, arith, sym}
-use Rattle.graph_rank.specs.Search.{fresh, mark_at, IsStep}
+use Rattle.std.proofs.Common.{◌<◌, length, arith, sym}
 use Rattle.graph_rank.proofs.Finished.{begins, begins_met, fresh_read}
 use Rattle.graph_rank.proofs.search.Search.visit.Goals as goal
 
