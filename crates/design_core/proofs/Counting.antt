@@ -1,7 +1,7 @@
 -- The drives of a net are counted as the net's drivers are, and the first of them is its driver.
-use Rattle.std.proofs.Common.{◌≡◌, ◌∙◌, ◌+◌, ◌<◌, ◌≤◌, ℕ, zero, suc, Bool, true, false, cond, List, [], ◌∷◌, ◌++◌, Option, None, Some, ◌⊎◌, inl, inr, ap, sym, refl, map, length, arith}
+use Rattle.std.proofs.Common.{◌≡◌, ◌∙◌, ◌+◌, ℕ, zero, suc, Bool, true, false, cond, List, [], ◌∷◌, ◌++◌, Option, None, Some, inl, inr, ap, sym, refl, map, arith}
 use Rattle.std.specs.Prelude.{◌==◌, nat_lt, if◌then◌else◌, count_by, find, flat_map, option_map, position, unwrap_or}
-use Rattle.std.specs.List.{enumerate_from, list_any, position_from, sum_by}
+use Rattle.std.specs.List.{enumerate_from, list_any, position_from}
 use Rattle.std.specs.Option.{option_or}
 use Rattle.std.proofs.lemmas.Bool.{cases_Bool, ne_eqb, le-ltb}
 use Rattle.std.proofs.lemmas.List.Folds.{find-append}

@@ -1,7 +1,7 @@
 -- What an entry of the table tells of its net.
-use Rattle.std.proofs.Common.{◌≡◌, ◌∙◌, ◌+◌, ◌<◌, ◌≤◌, ℕ, zero, suc, Bool, true, false, cond, List, [], ◌∷◌, ◌++◌, Option, None, Some, ◌⊎◌, inl, inr, ap, sym, subst, refl, map, length, replicate, get_or, get_or-set_same, get_or-set_other, arith}
-use Rattle.std.specs.Prelude.{◌==◌, if◌then◌else◌, count_by, find, option_map, slice_get, slice_set}
-use Rattle.std.proofs.lemmas.Bool.{cases_eq, eq-eqb, ne_eqb, eqb-true, eqb-false, cases_Bool}
+use Rattle.std.proofs.Common.{◌≡◌, ◌∙◌, ◌+◌, ◌<◌, ℕ, true, false, List, [], ◌∷◌, Option, None, Some, ◌⊎◌, inl, inr, ap, sym, refl, length, get_or, get_or-set_same, get_or-set_other, arith}
+use Rattle.std.specs.Prelude.{◌==◌, if◌then◌else◌}
+use Rattle.std.proofs.lemmas.Bool.{cases_eq, eq-eqb, ne_eqb, cases_Bool}
 use Rattle.std.proofs.lemmas.List.{length-set}
 use Rattle.design_core.specs.declared.drives.Driven.{Driven}
 use Rattle.design_core.specs.declared.drives.Driven.TheVariants.{Never, Once, Twice}

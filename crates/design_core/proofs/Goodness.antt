@@ -1,11 +1,9 @@
 -- What good parts are: all nets are there, names and memories too, and shapes fit.
-use Rattle.std.proofs.Common.{◌≡◌, ◌∙◌, ◌+◌, ◌<◌, ◌≤◌, ◌^◌, ℕ, zero, suc, Bool, true, false, ◌&&◌, cond, List, [], ◌∷◌, ◌++◌, Option, None, Some, ◌⊎◌, inl, inr, ap, sym, subst, refl, map, take, length, arith}
+use Rattle.std.proofs.Common.{◌≡◌, ◌∙◌, ◌+◌, ◌<◌, ◌≤◌, ◌^◌, ℕ, zero, suc, Bool, true, false, ◌&&◌, cond, List, [], ◌∷◌, Option, None, Some, inl, inr, refl, take, length, arith}
 use Rattle.std.specs.Prelude.{◌==◌, nat_le, nat_lt, count_by, slice_get, IfSome}
 use Rattle.std.specs.List.{enumerate_from, list_all}
-use Rattle.std.proofs.lemmas.Bool.{and_parts, and_from, cases_Bool, cases_lt, ltb-true, lt-ltb, leb-true, le-leb, eqb-true}
+use Rattle.std.proofs.lemmas.Bool.{and_parts, and_from, cases_Bool, cases_lt, ltb-true, lt-ltb, leb-true, eqb-true}
 use Rattle.std.proofs.lemmas.Option.{slice_get_past, slice_get_within}
-use Rattle.id_arena.specs.declared.keys.MemId.{MemId}
-use Rattle.id_arena.specs.declared.keys.ElemId.{ElemId}
 use Rattle.design_core.specs.declared.operation.Op.{Op}
 use Rattle.design_core.specs.declared.operation.Op.TheVariants.{And, Nand, Or, Nor, Xor, Xnor, Buf, Not, Table}
 use Rattle.design_core.specs.declared.element.Element.{Element}
@@ -17,7 +15,7 @@ use Rattle.design_core.specs.declared.parts.Scope.{Scope}
 use Rattle.design_core.specs.Design.{IsDesign, driver_count, element_fits, element_reads, includes, is_memory, memory_fits, net_count, nets_read, op_fits, write_reads}
 use Rattle.design_core.specs.Limits.{IsCountable, IsWithin, inputs_within, most_inputs}
 use Rattle.design_core.specs.Names.{IsNamed}
-use Rattle.design_core.specs.Faults.{AreGood, AreSingle, AreThere, IsDriven, IsOnce, are_there, around_good, element_good, element_outputs, inputs_fit, memory_good, parent_earlier, place_good, ports_there, rest_good, scope_there, shape_good}
+use Rattle.design_core.specs.Faults.{AreGood, AreSingle, AreThere, IsDriven, IsOnce, are_there, around_good, element_good, element_outputs, inputs_fit, memory_good, parent_earlier, ports_there, rest_good, scope_there, shape_good}
 use Rattle.design_core.proofs.Counting.{count-cons}
 use Rattle.design_core.specs.Tables.{IsSound}
 use Rattle.design_core.proofs.Bounds.{every}

@@ -1,6 +1,6 @@
 -- Trails from a scope outwards, and the path that they give.
-use Rattle.std.proofs.Common.{◌≡◌, ◌∙◌, ◌+◌, ◌-◌, get_or, ◌<◌, ◌≤◌, ℕ, zero, suc, List, [], ◌∷◌, ◌++◌, Option, None, Some, ap, sym, subst, refl, map, reverse, length, take, drop, append_assoc, arith}
-use Rattle.std.specs.Prelude.{slice_get, IfSome, if◌then◌else◌, ◌==◌, codes}
+use Rattle.std.proofs.Common.{◌≡◌, ◌∙◌, ◌+◌, ◌-◌, get_or, ◌<◌, ◌≤◌, ℕ, zero, suc, List, [], ◌∷◌, ◌++◌, None, Some, ap, sym, subst, refl, map, reverse, length, drop, append_assoc, arith}
+use Rattle.std.specs.Prelude.{slice_get, if◌then◌else◌, ◌==◌, codes}
 use Rattle.std.specs.List.{join_with_byte}
 use Rattle.std.proofs.lemmas.List.{append-nil, map-append, reverse-append, drop_more, length-map, length-drop}
 use Rattle.std.proofs.lemmas.Bool.{ne_eqb}
@@ -8,7 +8,7 @@ use Rattle.design_core.specs.declared.parts.Scope.{Scope}
 use Rattle.design_core.specs.declared.parts.Parts.{Parts}
 use Rattle.design_core.specs.declared.parts.NetName.{NetName}
 use Rattle.design_core.specs.Names.{IsTrail, IsPathIn, IsNetText, named_in, escaped, path_of}
-use Rattle.design_core.specs.Trails.{AreOutward, AreScopes, name_at, parent_at, the_name, the_parent, separator, written_path}
+use Rattle.design_core.specs.Trails.{AreOutward, AreScopes, name_at, parent_at, separator, written_path}
 
 -- an item within a list is there
 pub found_at : {X : Type 0} (xs : List X) (k : ℕ) → k < length xs → (x : X) × (slice_get xs k ≡ Some x)

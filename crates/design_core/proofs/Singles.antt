@@ -1,16 +1,16 @@
 -- When all elements are judged, each memory has one element, or one memory has none.
-use Rattle.std.proofs.Common.{◌≡◌, ◌∙◌, ◌+◌, ◌<◌, ◌≤◌, ℕ, zero, suc, Bool, true, false, ◌&&◌, List, [], ◌∷◌, Option, None, Some, ◌⊎◌, inl, inr, ap, sym, subst, refl, map, take, length, arith}
-use Rattle.std.specs.Prelude.{◌==◌, nat_lt, count_by, is_some, option_map, slice_get}
+use Rattle.std.proofs.Common.{◌≡◌, ◌∙◌, ◌+◌, ◌<◌, ℕ, suc, true, false, List, [], ◌∷◌, Option, None, Some, inl, inr, ap, sym, refl, map, take, length, arith}
+use Rattle.std.specs.Prelude.{nat_lt, count_by, is_some, option_map, slice_get}
 use Rattle.std.specs.List.{enumerate_from, list_all}
-use Rattle.std.proofs.lemmas.Bool.{and_from, and_right, cases_lt, lt-ltb, ltb-true, false_from_ne_true}
+use Rattle.std.proofs.lemmas.Bool.{and_from, and_right, cases_lt, ltb-true, false_from_ne_true}
 use Rattle.std.proofs.lemmas.List.{length-map, take_all}
-use Rattle.std.proofs.lemmas.Option.{slice_get-map, slice_get_past, slice_get_within, same_Some}
+use Rattle.std.proofs.lemmas.Option.{slice_get-map, slice_get_past, slice_get_within}
 use Rattle.id_arena.specs.declared.keys.ElemId.{ElemId}
 use Rattle.design_core.specs.declared.element.Memory.{Memory}
 use Rattle.design_core.specs.declared.parts.Parts.{Parts}
 use Rattle.design_core.specs.Design.{is_memory}
 use Rattle.design_core.specs.Tables.{AreOwners}
-use Rattle.design_core.specs.Faults.{AreGood, AreOwned, AreSingle, IsLeastBad, around_good, place_good, rest_good}
+use Rattle.design_core.specs.Faults.{AreGood, AreOwned, AreSingle, IsLeastBad, around_good, place_good}
 use Rattle.design_core.proofs.Goodness.{all_numbered, every_from}
 use Rattle.design_core.proofs.Outwards.{found_at}
 

@@ -1,10 +1,9 @@
 -- The table of a design's drives tells each net's driver and each net's faults.
-use Rattle.std.proofs.Common.{◌≡◌, ◌∙◌, ◌+◌, ◌<◌, ◌≤◌, ℕ, zero, suc, Bool, true, false, List, [], ◌∷◌, Option, None, Some, ◌⊎◌, inl, inr, ap, sym, subst, refl, map, length, replicate, get_or, arith}
+use Rattle.std.proofs.Common.{◌≡◌, ◌∙◌, ◌<◌, ◌≤◌, ℕ, zero, suc, true, false, List, Option, None, Some, inl, inr, ap, sym, refl, map, length, replicate, get_or, arith}
 use Rattle.std.specs.Prelude.{◌==◌, is_some, option_map, slice_get, unwrap_or}
 use Rattle.std.proofs.lemmas.Bool.{cases_lt, ne_eqb}
 use Rattle.std.proofs.lemmas.List.{length-map, length-replicate, get_or-replicate, get_or_default}
 use Rattle.std.proofs.lemmas.Option.{slice_get-map, slice_get-get_or, same_Some}
-use Rattle.id_arena.specs.declared.keys.NetId.{NetId}
 use Rattle.design_core.specs.declared.drives.Driven.{Driven}
 use Rattle.design_core.specs.declared.drives.Driven.TheVariants.{Never, Once, Twice}
 use Rattle.design_core.specs.declared.element.Driver.{Driver}
@@ -15,7 +14,7 @@ use Rattle.design_core.specs.Drives.{AreTold, IsFirstTwice, drives_of, put_all, 
 use Rattle.design_core.specs.Faults.{IsLeastTwice, IsOnce}
 use Rattle.design_core.specs.Reads.{is_never, never_at}
 use Rattle.design_core.specs.Tables.{AreDrivers}
-use Rattle.design_core.proofs.Counting.{count_of, counted, first_is, first_of}
+use Rattle.design_core.proofs.Counting.{counted, first_is, first_of}
 use Rattle.design_core.proofs.Entries.{Tells, driven_by, entry, tells}
 use Rattle.design_core.proofs.Filling.{put_all-length}
 use Rattle.design_core.proofs.Outwards.{found_at}

@@ -1,7 +1,7 @@
 -- The things that drive nets, one after the other, and a table of what drives each net so far.
 -- The rule is told in docs/RULES.md, "Building a design".
-use Rattle.std.specs.Prelude.{◌≡◌, ◌<◌, ◌==◌, ℕ, Bool, true, false, Option, Some, None, List, [], ◌∷◌, ◌++◌, map, length, flat_map, get_or, is_some, slice_get, slice_set}
-use Rattle.std.specs.List.{list_all, enumerate_from}
+use Rattle.std.specs.Prelude.{◌≡◌, ◌<◌, ℕ, true, false, Option, Some, None, List, [], ◌∷◌, ◌++◌, map, length, flat_map, get_or, is_some, slice_set}
+use Rattle.std.specs.List.{enumerate_from}
 use Rattle.id_arena.specs.declared.keys.NetId.{NetId}
 use Rattle.design_core.specs.declared.drives.Driven.{Driven}
 use Rattle.design_core.specs.declared.drives.Driven.TheVariants.{Never, Once, Twice}

@@ -1,6 +1,6 @@
 -- The scopes of a design, and the texts that they give nets and elements.
 -- The rule is told in docs/FORMATS.md, "Names and paths".
-use Rattle.std.specs.Prelude.{◌≡◌, ◌<◌, ◌≤◌, ◌==◌, ℕ, Bool, if◌then◌else◌, Option, None, Some, List, [], ◌∷◌, ◌++◌, map, reverse, length, flat_map, slice_get, IfSome, codes, decimal}
+use Rattle.std.specs.Prelude.{◌≡◌, ◌<◌, ◌≤◌, ◌==◌, ℕ, if◌then◌else◌, Option, None, Some, List, [], ◌∷◌, ◌++◌, map, reverse, length, flat_map, slice_get, IfSome, codes, decimal}
 use Rattle.std.specs.List.{join_with_byte}
 use Rattle.design_core.specs.declared.parts.Parts.{Parts}
 use Rattle.design_core.specs.declared.parts.NetName.{NetName}

@@ -3,7 +3,7 @@
 use Rattle.std.specs.Prelude.{ℕ, nat_lt, Bool, true, false, if◌then◌else◌, Option, Some, None, List, [], ◌∷◌, get_or}
 use Rattle.id_arena.specs.declared.keys.NetId.{NetId}
 use Rattle.design_core.specs.declared.drives.Driven.{Driven}
-use Rattle.design_core.specs.declared.drives.Driven.TheVariants.{Never, Once, Twice}
+use Rattle.design_core.specs.declared.drives.Driven.TheVariants.{Never, Twice}
 
 -- whether nothing drives a net
 abbrev pub is_never : Driven → Bool

@@ -43,9 +43,8 @@ fn gate(alloc: Global, op: Op, inputs: &[u32], output: u32) -> Result<Element, N
     })
 }
 
-/// A memory of two words of one bit: it stores net 6 at the address of net 2, and shows in net 7 the
-/// word at the address of net 6.
-fn memory(alloc: Global) -> Result<Memory, NoMemory> {
+/// A write port that stores net 6 at the address of net 2.
+fn writes(alloc: Global) -> Result<List<WritePort>, NoMemory> {
     let mut writes = List::new(alloc);
     writes.push(WritePort {
         clock: net(3),
@@ -57,23 +56,32 @@ fn memory(alloc: Global) -> Result<Memory, NoMemory> {
         address: nets(alloc, &[2])?,
         feed: nets(alloc, &[6])?,
     })?;
+    Ok(writes)
+}
+
+/// A read port that shows in net 7 the word at the address of net 6.
+fn reads(alloc: Global) -> Result<List<ReadPort>, NoMemory> {
     let mut reads = List::new(alloc);
     reads.push(ReadPort {
         address: nets(alloc, &[6])?,
         bits: nets(alloc, &[7])?,
     })?;
+    Ok(reads)
+}
+
+/// A memory of two words of one bit.
+fn memory(alloc: Global) -> Result<Memory, NoMemory> {
     Ok(Memory {
         address_bits: 1,
         width: 1,
-        writes,
-        reads,
+        writes: writes(alloc)?,
+        reads: reads(alloc)?,
     })
 }
 
-/// The top with inputs 2 and 3 and output 7, and in it an instance of a strange name with a flip-flop
-/// and a memory. Nets 4 and 8 are neither driven nor read.
-fn parts(alloc: Global) -> Result<Parts, NoMemory> {
-    let mut net_names = List::new(alloc);
+/// The names of nine nets; one of the top's is a bit of a vector, and two stand in the instance.
+fn net_names(alloc: Global) -> Result<List<NetName>, NoMemory> {
+    let mut names = List::new(alloc);
     for (name, scope, index) in [
         ("zero", 0u32, None),
         ("one", 0, None),
@@ -85,19 +93,24 @@ fn parts(alloc: Global) -> Result<Parts, NoMemory> {
         ("y", 0, None),
         ("z", 1, None),
     ] {
-        net_names.push(NetName {
-            scope,
-            name: Text::from_bytes(alloc, name.as_bytes())?,
-            index,
-        })?;
+        let name = Text::from_bytes(alloc, name.as_bytes())?;
+        names.push(NetName { scope, name, index })?;
     }
+    Ok(names)
+}
+
+/// The top, an instance of a strange name in it, and another in that.
+fn scopes(alloc: Global) -> Result<List<Scope>, NoMemory> {
     let mut scopes = List::new(alloc);
     for (parent, name) in [(None, "t"), (Some(0u32), "u~/1"), (Some(1), "v")] {
-        scopes.push(Scope {
-            parent,
-            name: Text::from_bytes(alloc, name.as_bytes())?,
-        })?;
+        let name = Text::from_bytes(alloc, name.as_bytes())?;
+        scopes.push(Scope { parent, name })?;
     }
+    Ok(scopes)
+}
+
+/// A gate, a flip-flop and a memory.
+fn elements(alloc: Global) -> Result<List<Element>, NoMemory> {
     let mut elements = List::new(alloc);
     elements.push(gate(alloc, Op::Not, &[2], 5)?)?;
     elements.push(Element::Flop(Flop {
@@ -109,18 +122,34 @@ fn parts(alloc: Global) -> Result<Parts, NoMemory> {
         q: net(6),
     }))?;
     elements.push(Element::Memory(MemId::of(0)))?;
+    Ok(elements)
+}
+
+/// The scopes of the three elements.
+fn paths(alloc: Global) -> Result<List<u32>, NoMemory> {
     let mut paths = List::new(alloc);
     for scope in [0, 1, 2] {
         paths.push(scope)?;
     }
+    Ok(paths)
+}
+
+/// The one memory.
+fn memories(alloc: Global) -> Result<List<Memory>, NoMemory> {
     let mut memories = List::new(alloc);
     memories.push(memory(alloc)?)?;
+    Ok(memories)
+}
+
+/// The top with inputs 2 and 3 and output 7, and in it an instance of a strange name with a flip-flop
+/// and a memory. Nets 4 and 8 are neither driven nor read.
+fn parts(alloc: Global) -> Result<Parts, NoMemory> {
     Ok(Parts {
-        net_names,
-        scopes,
-        elements,
-        paths,
-        memories,
+        net_names: net_names(alloc)?,
+        scopes: scopes(alloc)?,
+        elements: elements(alloc)?,
+        paths: paths(alloc)?,
+        memories: memories(alloc)?,
         inputs: port(alloc, b"a", &[2, 3])?,
         outputs: port(alloc, b"y", &[7])?,
     })

@@ -1,5 +1,5 @@
 -- Each memory has an element, or the rest is bad.
-use Rattle.std.proofs.Common.{◌≡◌, ◌∙◌, Some, None, length, map, false, ap, sym, arith}
+use Rattle.std.proofs.Common.{◌≡◌, ◌∙◌, Some, length, map, false, ap, sym}
 use Rattle.std.specs.Prelude.{is_some}
 use Rattle.std.specs.List.{list_all}
 use Rattle.design_core.proofs.Singles.{are_good, are_owners, are_single, rest_bad}

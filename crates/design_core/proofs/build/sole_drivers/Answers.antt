@@ -1,10 +1,10 @@
 -- The table of drives tells the drivers, or the least net with two, or the least without one.
-use Rattle.std.proofs.Common.{◌≡◌, ◌∙◌, ◌<◌, ◌≤◌, ℕ, None, Some, length, ap, sym, arith}
+use Rattle.std.proofs.Common.{◌≡◌, ◌∙◌, None, Some, length, ap, sym, arith}
 use Rattle.design_core.specs.Design.{nets_read}
 use Rattle.design_core.specs.Drives.{AreTold, IsFirstTwice}
 use Rattle.design_core.specs.Reads.{lowest}
 use Rattle.design_core.proofs.Ranges.{in_range}
-use Rattle.design_core.proofs.Sole.{IsTableOf, are_drivers, are_once, least_twice, table_length}
+use Rattle.design_core.proofs.Sole.{are_drivers, are_once, least_twice, table_length}
 use Rattle.design_core.proofs.Undriven.{least_undriven, none_undriven}
 use Rattle.design_core.proofs.build.sole_drivers.Goals as goal
 

@@ -1,4 +1,4 @@
-use Rattle.std.proofs.Common.{◌≡◌, ◌∙◌, ℕ, length}
+use Rattle.std.proofs.Common.{◌≡◌, ◌∙◌, ℕ}
 use Rattle.design_core.specs.declared.element.Memory.{Memory}
 use Rattle.design_core.specs.Drives.{memory_drives, put_all}
 use Rattle.design_core.proofs.Filling.{nested_from}

@@ -1,7 +1,7 @@
-use Rattle.std.proofs.Common.{◌≡◌, ◌∙◌, length, map}
+use Rattle.std.proofs.Common.{◌≡◌, ◌∙◌, map}
 use Rattle.design_core.specs.declared.element.Driver.TheVariants.{Input}
 use Rattle.design_core.specs.Drives.{drive_of, put_all}
-use Rattle.design_core.proofs.Filling.{nested, put_all-length}
+use Rattle.design_core.proofs.Filling.{nested}
 use Rattle.design_core.proofs.drives.drive_ports.Goals as goal
 
 pub ports-preserved : goal.ports-preserved

@@ -1,5 +1,5 @@
 -- A table of up to 5 inputs has at most 32 bits.
-use Rattle.std.proofs.Common.{◌≡◌, ◌<◌, ◌≤◌, ◌^◌, ℕ, arith}
+use Rattle.std.proofs.Common.{◌≤◌, arith}
 use Rattle.design_core.proofs.Powers.{wide, shift_is, rows_fit, table_is}
 use Rattle.design_core.proofs.good.table_fits.Goals as goal
 

@@ -1,5 +1,5 @@
 -- A memory has at most 16 address bits.
-use Rattle.std.proofs.Common.{◌≡◌, ◌≤◌, ◌^◌, arith}
+use Rattle.std.proofs.Common.{arith}
 use Rattle.design_core.proofs.Bounds.{shift_fits}
 use Rattle.design_core.proofs.Powers.{shift_is}
 use Rattle.design_core.proofs.limits.word_number.Goals as goal

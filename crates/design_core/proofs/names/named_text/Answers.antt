@@ -1,5 +1,5 @@
 -- The path, a slash after one that is not empty, the name and the index are the net's text.
-use Rattle.std.proofs.Common.{◌≡◌, ◌∙◌, ◌++◌, List, ℕ, Some, ap, sym, slice_get}
+use Rattle.std.proofs.Common.{◌≡◌, ◌∙◌, ◌++◌, Some, ap, slice_get}
 use Rattle.design_core.specs.Names.{IsPathIn, before_name, index_text, named_in}
 use Rattle.design_core.proofs.Outwards.{net_named}
 use Rattle.design_core.proofs.names.named_text.Goals as goal

@@ -1,4 +1,4 @@
-use Rattle.std.proofs.Common.{◌≡◌, ◌<◌, sym, arith}
+use Rattle.std.proofs.Common.{sym, arith}
 use Rattle.design_core.proofs.Outwards.{ends, goes_on, outer_below, still_scopes}
 use Rattle.design_core.proofs.names.trail_of.Goals as goal
 

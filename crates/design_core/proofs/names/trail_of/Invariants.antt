@@ -1,5 +1,5 @@
 -- A trail from the scope that is reached goes on from the trail so far.
-use Rattle.std.proofs.Common.{◌≡◌, ◌<◌, ◌++◌, ℕ, List, length, map}
+use Rattle.std.proofs.Common.{◌<◌, ◌++◌, ℕ, List, length, map}
 use Rattle.design_core.specs.Names.{IsTrail}
 use Rattle.design_core.specs.Trails.{AreScopes, name_at}
 use Rattle.design_core.proofs.names.trail_of.Given as goal

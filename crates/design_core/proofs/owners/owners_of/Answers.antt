@@ -1,10 +1,8 @@
 -- An element that is good is claimed, and the table has the memories among one more element.
-use Rattle.std.proofs.Common.{◌≡◌, ◌∙◌, ◌+◌, ◌<◌, ◌++◌, ℕ, true, Some, take, drop, length, slice_get, sym, refl, arith}
-use Rattle.std.proofs.lemmas.Bool.{cases_eq}
+use Rattle.std.proofs.Common.{◌≡◌, ◌∙◌, true, Some, take, drop, length, slice_get, sym, refl}
 use Rattle.std.proofs.lemmas.List.{take_at}
 use Rattle.std.proofs.lemmas.Option.{slice_get_read}
-use Rattle.std.specs.Prelude.{IsTrue}
-use Rattle.design_core.specs.Faults.{AreOwned, claimed, element_good, place_good}
+use Rattle.design_core.specs.Faults.{claimed, element_good}
 use Rattle.design_core.proofs.Owning.{claimed_is, good_here, one_more_good, shape_of}
 use Rattle.design_core.proofs.owners.owners_of.Goals as goal
 

@@ -1,6 +1,5 @@
-use Rattle.std.proofs.Common.{◌∙◌, ap, sym}
+use Rattle.std.proofs.Common.{◌∙◌}
 use Rattle.design_core.proofs.Owning.{fresh_is}
-use Rattle.design_core.specs.Faults.{shape_good}
 use Rattle.design_core.proofs.owners.shape_good.Goals as goal
 
 pub returns-in-Memory : goal.returns-in-Memory

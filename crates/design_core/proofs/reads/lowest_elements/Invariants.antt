@@ -1,7 +1,7 @@
 -- The nets that are left decide with what is found so far.
 use Rattle.std.proofs.Common.{◌≡◌, drop}
 use Rattle.std.specs.List.{flat_map}
-use Rattle.design_core.specs.Design.{element_reads, memory_reads, write_reads}
+use Rattle.design_core.specs.Design.{element_reads}
 use Rattle.design_core.specs.Reads.{lowest}
 use Rattle.design_core.proofs.reads.lowest_elements.Given as goal
 

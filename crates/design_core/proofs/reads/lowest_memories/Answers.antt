@@ -1,8 +1,5 @@
-use Rattle.std.proofs.Common.{◌≡◌, ◌∙◌}
-use Rattle.design_core.specs.Design.{element_reads, memory_reads, write_reads}
-use Rattle.design_core.specs.Reads.{lowest}
-use Rattle.design_core.specs.declared.parts.Port.{Port}
-use Rattle.design_core.specs.declared.element.ReadPort.{ReadPort}
+use Rattle.std.proofs.Common.{◌∙◌}
+use Rattle.design_core.specs.Design.{memory_reads}
 use Rattle.design_core.proofs.Lowest.{one_more}
 use Rattle.design_core.proofs.reads.lowest_memories.Goals as goal
 

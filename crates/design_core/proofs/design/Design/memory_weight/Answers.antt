@@ -1,5 +1,5 @@
 -- A memory has at most 2 to 16 words of at most 128 bits.
-use Rattle.std.proofs.Common.{◌≡◌, Some, option_map, ap, arith, refl}
+use Rattle.std.proofs.Common.{arith}
 use Rattle.design_core.proofs.Bounds.{weight_fits}
 use Rattle.design_core.proofs.design.Design.memory_weight.Goals as goal
 
