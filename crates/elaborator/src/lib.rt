@@ -1,7 +1,13 @@
 //! From a Verilog text to the design that it describes.
 //!
-//! So far one kind of design is read: a module with one input port, one output port, and one gate
-//! from the one to the other. `specs/OneGateText.antt` says which texts describe it.
+//! [`read_gates`] reads one module of `buf` and `not` gates, flat and without vectors, from the tree
+//! of its text. `specs/GateDesign.antt` says which trees describe which designs: what the module lists
+//! gives the names of its nets in their order, and these give the parts. [`trees_tell_designs_apart`]
+//! carries the law that no tree describes two designs, [`gate_designs_are_plain`] that gates are `buf`
+//! and `not` alone and that nothing constant is read.
+//!
+//! [`read_one_gate`] reads a module with one input port, one output port and one gate between them
+//! from its words; `specs/OneGateText.antt` says which texts describe it.
 #![tactic(auto)]
 
 mod fault;
