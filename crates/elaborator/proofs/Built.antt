@@ -1,5 +1,5 @@
 -- A design that is built from the parts of a tree, or refused.
-use Rattle.std.proofs.Common.{◌≡◌, ℕ, List, Err, ap, map, subst, sym, ◌∙◌}
+use Rattle.std.proofs.Common.{◌≡◌, ℕ, List, Err, map, subst, sym}
 use Rattle.verilog_lex.specs.declared.token.Token.{Token}
 use Rattle.verilog_tree.specs.declared.source.Source.{Source}
 use Rattle.design_core.specs.Design.{IsDesign}

@@ -1,6 +1,6 @@
 -- How long the lists are that a module of gates stands for.
-use Rattle.std.proofs.Common.{◌≡◌, ◌+◌, ◌<◌, ◌≤◌, ℕ, Bool, true, false, not, cond, List, [], ◌∷◌, ◌++◌, ap, arith, length, length-append, map, refl, subst, sym, ◌∙◌}
-use Rattle.std.specs.Prelude.{bytes_eq, count_by, filter}
+use Rattle.std.proofs.Common.{◌≡◌, ◌≤◌, ℕ, Bool, true, false, not, cond, List, [], ◌∷◌, ◌++◌, ap, arith, length, length-append, map, refl, subst, sym, ◌∙◌}
+use Rattle.std.specs.Prelude.{bytes_eq, filter}
 use Rattle.std.proofs.lemmas.List.{length-map, map-append}
 use Rattle.std.proofs.lemmas.List.Sums.{count_by-le-length, length-filter}
 use Rattle.id_arena.specs.Names.{with_name}
@@ -10,13 +10,12 @@ use Rattle.design_core.specs.Design.{port_bits}
 use Rattle.design_core.specs.Limits.{IsCountable, IsWithin}
 use Rattle.elaborator.specs.GateParts.{top_name}
 use Rattle.design_core.specs.declared.parts.Parts.{Parts}
-use Rattle.elaborator.specs.declared.gate_sketch.Primitive.{Primitive}
 use Rattle.elaborator.specs.declared.gate_sketch.Sketch.{Sketch}
 use Rattle.elaborator.specs.GateDesign.{StandsFor}
 use Rattle.elaborator.specs.GateNames.{AreDifferent, Name, first_uses, is_among, is_implicit, text_of, with_names}
-use Rattle.elaborator.specs.GateParts.{element_of, net_names, net_uses, own_names, own_scope, parts_of, parts_with, path_of, port_of, ports_among, terminals}
+use Rattle.elaborator.specs.GateParts.{element_of, net_names, net_uses, own_names, own_scope, parts_of, port_of, terminals}
 use Rattle.elaborator.proofs.Joining.{few_names}
-use Rattle.elaborator.proofs.Uses.{apart_back, first_false, first_uses-append, other_than, second_false, with_name-is}
+use Rattle.elaborator.proofs.Uses.{first_false, first_uses-append, other_than, second_false, with_name-is}
 
 -- names that are all different are their own first uses
 all_other : (name : Name) (names : List Name) → is_among names name ≡ false → filter (other_than name) names ≡ names

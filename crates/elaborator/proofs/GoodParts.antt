@@ -1,6 +1,6 @@
 -- What a module of gates stands for is no bad place of a design.
-use Rattle.std.proofs.Common.{◌≡◌, ◌+◌, ◌<◌, ◌≤◌, ◌==◌, ◌&&◌, ℕ, Bool, true, false, nat_le, nat_lt, List, [], ◌∷◌, Option, Some, None, ap, arith, length, map, option_map, refl, slice_get, subst, sym, ◌∙◌, inl, inr}
-use Rattle.std.specs.Prelude.{zero, suc, codes, filter, take}
+use Rattle.std.proofs.Common.{◌≡◌, ◌+◌, ◌<◌, ◌==◌, ◌&&◌, ℕ, Bool, true, nat_le, nat_lt, List, [], ◌∷◌, Option, Some, None, ap, arith, length, map, option_map, refl, slice_get, subst, sym, ◌∙◌, inl, inr}
+use Rattle.std.specs.Prelude.{zero, suc, filter, take}
 use Rattle.std.specs.List.{enumerate_from, list_all}
 use Rattle.std.specs.Option.{option_map_or}
 use Rattle.std.proofs.lemmas.Bool.{eq-eqb, le-leb, lt-ltb}
@@ -10,17 +10,16 @@ use Rattle.id_arena.specs.Names.{place_among}
 use Rattle.id_arena.proofs.FirstPlaces.{place_among-Some}
 use Rattle.elaborator.specs.GateParts.{top_name}
 use Rattle.design_core.specs.Plain.{IsPlainOp}
-use Rattle.design_core.specs.Faults.{AreGood, are_there, element_good, inputs_fit, parent_earlier, ports_there, rest_good, scope_there, thing_good}
+use Rattle.design_core.specs.Faults.{AreGood, element_good, inputs_fit, parent_earlier, ports_there, rest_good, scope_there, thing_good}
 use Rattle.design_core.specs.Design.{net_count}
 use Rattle.design_core.specs.declared.operation.Op.{Op}
-use Rattle.design_core.specs.declared.operation.Op.TheVariants.{Buf, Not}
 use Rattle.design_core.specs.declared.parts.NetName.{NetName}
 use Rattle.design_core.specs.declared.parts.Parts.{Parts}
 use Rattle.design_core.specs.declared.parts.Scope.{Scope}
 use Rattle.elaborator.specs.declared.gate_sketch.Primitive.{Primitive}
 use Rattle.elaborator.specs.declared.gate_sketch.Sketch.{Sketch}
 use Rattle.elaborator.specs.GateNames.{Name, is_among}
-use Rattle.elaborator.specs.GateParts.{element_of, net_of, own_scope, parts_with, path_of, port_of, ports_among, scope_of}
+use Rattle.elaborator.specs.GateParts.{element_of, net_of, own_scope, parts_with, path_of, port_of, scope_of}
 use Rattle.elaborator.proofs.PlainGates.{ArePlain}
 
 none_some : {X : Type 0} (x : X) → None ≡ Some x → ⊥

@@ -1,14 +1,13 @@
 -- Parts that are good, within the limits and a design are not refused but for want of memory.
-use Rattle.std.proofs.Common.{◌≡◌, ◌<◌, ◌==◌, ◌&&◌, ℕ, Bool, true, false, nat_le, Err, arith, refl, sym, ◌∙◌, ap, inl, inr}
+use Rattle.std.proofs.Common.{◌≡◌, ◌<◌, ◌==◌, ℕ, Bool, true, false, Err, arith, refl, sym, ◌∙◌, ap}
 use Rattle.std.proofs.lemmas.Bool.{le-leb}
-use Rattle.std.proofs.lemmas.Bool.Decides.{eqb_tells}
 use Rattle.design_core.specs.Design.{IsDesign, driver_count, includes, net_count, nets_read}
-use Rattle.design_core.specs.Faults.{Answers, AreGood, is_undriven, place_good, within}
-use Rattle.design_core.specs.Limits.{IsWithin, word_count}
+use Rattle.design_core.specs.Faults.{Answers, AreGood, is_undriven, within}
+use Rattle.design_core.specs.Limits.{IsWithin}
 use Rattle.design_core.specs.declared.fault.DesignFault.{DesignFault}
 use Rattle.design_core.specs.declared.fault.DesignFault.TheVariants as fault
 use Rattle.design_core.specs.declared.fault.LimitKind.{LimitKind}
-use Rattle.design_core.specs.declared.fault.LimitKind.TheVariants.{Inputs, Nets, Elements, Words, Width, Depth, Instances}
+use Rattle.design_core.specs.declared.fault.LimitKind.TheVariants.{Inputs, Nets, Elements, Words}
 use Rattle.design_core.specs.declared.parts.Parts.{Parts}
 use Rattle.elaborator.proofs.PlainGates.{true_first, true_second}
 

@@ -1,8 +1,10 @@
 //! From a Verilog text to the design that it describes.
 //!
-//! So far one kind of design is read: one module of names without ranges and of `buf` and `not` gates,
-//! of any size. `specs/GateDesign.antt` says which trees describe it; the answer is the design, or that
-//! the tree describes none.
+//! [`read_gates`] reads one module of `buf` and `not` gates, flat and without vectors, from the tree
+//! of its text. `specs/GateDesign.antt` says which trees describe which designs: what the module lists
+//! gives the names of its nets in their order, and these give the parts. [`trees_tell_designs_apart`]
+//! carries the law that no tree describes two designs, [`gate_designs_are_plain`] that gates are `buf`
+//! and `not` alone and that nothing constant is read.
 #![tactic(auto)]
 
 mod fault;
