@@ -6,7 +6,7 @@ pub mod FromRules
 pub mod Histories
 pub mod Together
 pub mod Examples
-pub mod Tests
+pub mod Passing
 pub mod Driven
 pub mod Chips
 pub mod Weighing
