@@ -1,25 +1,23 @@
 -- A5, A8 and A10 of plain cases: what is asked of each action.
-use Rattle.std.proofs.Common.{◌≡◌, ℕ, zero, suc, ◌+◌, ◌<◌, ◌≤◌, arith, Bool, true, false, not, List, [], ◌∷◌, ◌++◌, length, refl, subst, sym, ap, ◌∙◌}
+use Rattle.std.proofs.Common.{◌≡◌, ℕ, zero, suc, ◌<◌, arith, Bool, true, List, [], length, refl, subst, sym, ap}
 use Rattle.std.specs.Prelude.{Option, Some, None, slice_get, IsTrue, ◌↔◌, ◌&&◌, nat_lt, nat_le, bytes_eq}
 use Rattle.std.specs.List.{list_all}
 use Rattle.std.specs.Option.{option_map_or}
-use Rattle.std.proofs.lemmas.Option.{none-some, same_Some}
 use Rattle.std.proofs.lemmas.Bool.Decides.{nat_tests}
 use Rattle.id_arena.specs.declared.wire.Wire.{Wire}
 use Rattle.emu_machine.specs.declared.schedule.Action.{Action}
 use Rattle.emu_machine.specs.declared.schedule.Action.TheVariants as action
 use Rattle.emu_machine.specs.declared.schedule.Slot.{Slot}
 use Rattle.emu_machine.specs.declared.schedule.Frame.{Frame}
-use Rattle.emu_machine.specs.declared.place.Place.{Place}
 use Rattle.emu_machine.specs.declared.place.Place.TheVariants as place
 use Rattle.emu_machine.specs.State.{frame_slots}
-use Rattle.emu_machine.specs.Acceptance.{Case, A4, A5, A8, A10, rule_number, action_at, slot_actions, fails_test, action_fits, keeps_subject, sends_inside, send_fits}
+use Rattle.emu_machine.specs.Acceptance.{Case, A4, A5, A8, A10, action_at, fails_test, action_fits, keeps_subject, sends_inside, send_fits}
 use Rattle.schedule_check.specs.declared.actions.Test.TheVariants.{IsThere, KeepsSubject}
-use Rattle.schedule_check.specs.Actions.{slots_pass, passes}
+use Rattle.schedule_check.specs.Actions.{slots_pass}
 use Rattle.schedule_check.specs.Verdict.{IsPlainCase, Meets, inside_all, all_inputs}
 use Rattle.schedule_check.proofs.Weighing.{OneFrame, one_frame}
-use Rattle.schedule_check.proofs.Tests.{all_here, all_true, one_fails, not_both, true_of}
-use Rattle.marks_law.proofs.Plain.{no, left, right}
+use Rattle.schedule_check.proofs.Passing.{all_here, all_true, not_both, true_of}
+use Rattle.marks_law.proofs.Plain.{no, right}
 
 module _ (c : Case) (s : IsPlainCase c) (a4 : Meets c A4) where
   -- only the first frame has slots

@@ -1,21 +1,17 @@
 -- A gate of a plain chip fits where it copies the gate that drives the net of its subject.
-use Rattle.std.proofs.Common.{◌≡◌, ◌∙◌, sym, ap, List, [], ◌∷◌, refl, Bool, true, false, not, ℕ, arith, ◌<◌, subst, inl, inr, if◌then◌else◌, map}
-use Rattle.std.specs.Prelude.{◌&&◌, ◌⊎◌, Option, Some, None, slice_get, nat_lt, IsTrue, ◌↔◌}
+use Rattle.std.proofs.Common.{◌≡◌, ◌∙◌, sym, ap, List, [], ◌∷◌, refl, Bool, true, false, ℕ, arith, ◌<◌, subst, inl, inr, if◌then◌else◌}
+use Rattle.std.specs.Prelude.{◌&&◌, Option, Some, None, nat_lt, IsTrue}
 use Rattle.std.specs.Option.{option_map_or}
 use Rattle.std.proofs.lemmas.Bool.Decides.{nat_tests}
 use Rattle.id_arena.specs.declared.keys.NetId.{NetId}
-use Rattle.id_arena.specs.declared.keys.ElemId.{ElemId}
-use Rattle.id_arena.specs.declared.keys.MemId.{MemId}
-use Rattle.id_arena.specs.declared.keys.ChipNetId.{ChipNetId}
 use Rattle.design_core.specs.declared.operation.Op.{Op}
-use Rattle.design_core.specs.declared.operation.Op.TheVariants.{And, Nand, Or, Nor, Xor, Xnor, Buf, Not, Table}
+use Rattle.design_core.specs.declared.operation.Op.TheVariants.{Table}
 use Rattle.design_core.specs.declared.element.Driver.{Driver}
 use Rattle.design_core.specs.declared.element.Driver.TheVariants.{Constant, Input, Elem, Read}
 use Rattle.design_core.specs.declared.element.Element.{Element}
-use Rattle.design_core.specs.declared.element.Element.TheVariants.{Gate}
 use Rattle.design_core.specs.declared.parts.Parts.{Parts}
 use Rattle.design_core.specs.Design.{driver, net_count, IsDesign}
-use Rattle.design_core.specs.Plain.{IsPlain, IsPlainOp}
+use Rattle.design_core.specs.Plain.{IsPlainOp}
 use Rattle.design_core.specs.Operation.{bit}
 use Rattle.emu_machine.specs.declared.netlist.EmuGate.{EmuGate}
 use Rattle.emu_machine.specs.declared.map.Subject.{Subject}
@@ -24,15 +20,15 @@ use Rattle.emu_machine.specs.declared.results.Results.{Results}
 use Rattle.emu_machine.specs.Netlist.{chip_at}
 use Rattle.emu_machine.specs.Mapped.{subject}
 use Rattle.emu_machine.specs.Plain.{IsPlainGate}
-use Rattle.emu_machine.specs.Origins.{Origin, origin_of, net_origin, element_origin, is_design_net, has_origin, gate_fits, same_op, same_subject, has_subject, have_subjects}
+use Rattle.emu_machine.specs.Origins.{origin_of, net_origin, element_origin, is_design_net, has_origin, gate_fits, same_op, have_subjects}
 use Rattle.emu_machine.specs.Marks.{Mark, copied_mark, element_mark}
 use Rattle.emu_machine.specs.Acceptance.{Case, plain_driver_mark, plain_gate_mark}
-use Rattle.marks_law.proofs.Plain.{no, left, right}
-use Rattle.marks_law.proofs.Inputs.{same_op_is, same_subject_is}
+use Rattle.marks_law.proofs.Plain.{no, left}
+use Rattle.marks_law.proofs.Inputs.{same_op_is}
 use Rattle.schedule_check.specs.Verdict.{IsPlainCase, Stem}
 use Rattle.schedule_check.proofs.Chips.{subject_is}
-use Rattle.schedule_check.proofs.Driven.{element_low, gate_at, GateAt, no_read}
-use Rattle.schedule_check.proofs.Tests.{false_of}
+use Rattle.schedule_check.proofs.Driven.{element_low, gate_at, no_read}
+use Rattle.schedule_check.proofs.Passing.{false_of}
 
 low_test : (a b : ℕ) → a < b → nat_lt a b ≡ true
 low_test a b h = grind (arith, nat_tests)

@@ -1,8 +1,7 @@
 -- What drives a net of a plain design.
-use Rattle.std.proofs.Common.{◌≡◌, ℕ, zero, suc, ◌+◌, ◌<◌, ◌≤◌, arith, Bool, true, false, List, [], ◌∷◌, refl, subst, sym, ap, ◌∙◌, if◌then◌else◌}
-use Rattle.std.specs.Prelude.{◌==◌, Option, Some, None, slice_get, position, find, option_map, unwrap_or, Contains}
+use Rattle.std.proofs.Common.{◌≡◌, ℕ, ◌<◌, ◌≤◌, arith, Bool, true, false, List, [], ◌∷◌, refl, subst, sym, ap, ◌∙◌, if◌then◌else◌}
+use Rattle.std.specs.Prelude.{◌==◌, Option, Some, None, slice_get, position, find, option_map, unwrap_or}
 use Rattle.std.specs.Option.{option_or}
-use Rattle.std.proofs.lemmas.Bool.Decides.{nat_tests}
 use Rattle.std.proofs.lemmas.Option.{none-some, same_Some}
 use Rattle.id_arena.specs.declared.keys.NetId.{NetId}
 use Rattle.id_arena.specs.declared.keys.ElemId.{ElemId}
@@ -13,12 +12,11 @@ use Rattle.design_core.specs.declared.element.Element.TheVariants as element
 use Rattle.design_core.specs.declared.element.Driver.{Driver}
 use Rattle.design_core.specs.declared.element.Driver.TheVariants.{Constant, Input, Elem, Read}
 use Rattle.design_core.specs.declared.parts.Parts.{Parts}
-use Rattle.design_core.specs.Design.{IsDesign, net_count, driver, drives, includes, is_net, port_bits, element_driver, read_driver, read_bits, ReadBit}
+use Rattle.design_core.specs.Design.{IsDesign, net_count, driver, drives, includes, port_bits, element_driver, read_driver, read_bits, ReadBit}
 use Rattle.design_core.specs.Plain.{IsPlain, IsPlainElement, IsPlainOp, IsNoConstant}
 use Rattle.history_law.proofs.Naming.{element_is_driver, driver_is_element, input_is_input_bit, input_bit_is_input, read_bit_is_driver, driver_is_read_bit, number_same}
-use Rattle.marks_law.proofs.Plain.{no}
 use Rattle.schedule_check.specs.Verdict.{Stem}
-use Rattle.schedule_check.proofs.Tests.{false_of}
+use Rattle.schedule_check.proofs.Passing.{false_of}
 
 abbrev pick : Bool → Bool → Bool → Option Driver → Driver
 pick low high input inner =

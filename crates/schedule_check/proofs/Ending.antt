@@ -1,43 +1,40 @@
 -- A11 of plain cases: what marks are left at the end of the frame.
-use Rattle.std.proofs.Common.{◌≡◌, ℕ, zero, suc, ◌+◌, ◌<◌, ◌≤◌, arith, Bool, true, false, not, List, [], ◌∷◌, ◌++◌, length, map, take, get_or, refl, subst, sym, ap, ◌∙◌, if◌then◌else◌, cond}
-use Rattle.std.specs.Prelude.{◌⊎◌, ◌↔◌, ◌==◌, ◌&&◌, ◌||◌, IsTrue, Option, Some, None, slice_get, count_by, find, unwrap_or, option_and_then, is_some, zip}
+use Rattle.std.proofs.Common.{◌≡◌, ℕ, zero, suc, ◌<◌, ◌≤◌, arith, Bool, true, false, not, List, [], ◌∷◌, length, map, take, get_or, refl, subst, sym, ap, ◌∙◌, if◌then◌else◌}
+use Rattle.std.specs.Prelude.{◌↔◌, ◌==◌, ◌&&◌, ◌||◌, Option, Some, None, slice_get, count_by, find, unwrap_or, option_and_then, is_some, zip}
 use Rattle.std.specs.List.{list_all, list_any}
 use Rattle.std.specs.Option.{option_or, option_map_or}
-use Rattle.std.proofs.lemmas.Option.{none-some, same_Some, slice_get_within, slice_get-get_or, get_or_from_slice_get, unwrap_or-slice_get}
+use Rattle.std.proofs.lemmas.Option.{none-some, same_Some, get_or_from_slice_get, unwrap_or-slice_get}
 use Rattle.id_arena.specs.declared.keys.NetId.{NetId}
 use Rattle.id_arena.specs.declared.wire.Wire.{Wire}
 use Rattle.design_core.specs.declared.node.NodeId.{NodeId}
 use Rattle.design_core.specs.declared.node.NodeId.TheVariants as node
-use Rattle.design_core.specs.declared.parts.Parts.{Parts}
 use Rattle.emu_machine.specs.declared.netlist.Chip.{Chip}
 use Rattle.emu_machine.specs.declared.netlist.EmuGate.{EmuGate}
 use Rattle.emu_machine.specs.declared.netlist.EmuRegister.{EmuRegister}
 use Rattle.emu_machine.specs.declared.netlist.EmuMemory.{EmuMemory}
-use Rattle.emu_machine.specs.declared.netlist.EmuRead.{EmuRead}
 use Rattle.emu_machine.specs.declared.schedule.Action.{Action}
 use Rattle.emu_machine.specs.declared.schedule.Action.TheVariants as action
 use Rattle.emu_machine.specs.declared.schedule.Slot.{Slot}
 use Rattle.emu_machine.specs.declared.schedule.Frame.{Frame}
 use Rattle.emu_machine.specs.declared.map.Subject.{Subject}
 use Rattle.emu_machine.specs.declared.map.Subject.TheVariants.{Net}
-use Rattle.emu_machine.specs.declared.place.Place.{Place}
 use Rattle.emu_machine.specs.declared.place.Place.TheVariants as place
-use Rattle.emu_machine.specs.Netlist.{chip_at, is_chip_net, net_drivers, gate_of, on_net, through_gates}
-use Rattle.emu_machine.specs.Mapped.{subject, chip_map, is_kept, kept_by_register}
-use Rattle.emu_machine.specs.Marks.{Mark, MarkState, no_mark, only_before, only_after, both_marks, has_some, widened, gate_mark, action_mark, marks_step, marks_after, start_marks, net_mark}
+use Rattle.emu_machine.specs.Netlist.{chip_at, is_chip_net, net_drivers, gate_of, on_net}
+use Rattle.emu_machine.specs.Mapped.{subject, chip_map, is_kept}
+use Rattle.emu_machine.specs.Marks.{Mark, MarkState, no_mark, only_before, only_after, both_marks, has_some, widened, gate_mark, action_mark, marks_step, marks_after, start_marks}
 use Rattle.emu_machine.specs.State.{frame_slots, first_given, on_register, read_port}
 use Rattle.emu_machine.specs.Acceptance.{Case, A4, A5, A11, action_fits, is_inside, is_hold, is_kept_register, register_at, register_ends, memory_ends, read_ends, end_marks, ends_after, has_frame}
 use Rattle.history_law.proofs.Lists.{counted, any_at}
 use Rattle.history_law.proofs.Naming.{number_same, same_number}
 use Rattle.marks_law.proofs.Plain.{no, left, right, not_true, found}
-use Rattle.schedule_check.specs.Uses.{target, targets}
+use Rattle.schedule_check.specs.Uses.{targets}
 use Rattle.schedule_check.specs.Ends.{register_done, EndsDone, is_given}
 use Rattle.schedule_check.specs.Verdict.{IsPlainCase, Meets, inside_all}
-use Rattle.schedule_check.proofs.Chips.{other_chip, plain_chip, registers_plain, subject_is, entry_fits}
-use Rattle.schedule_check.proofs.Acting.{later_slots, a5_tested}
-use Rattle.schedule_check.proofs.Weighing.{one_frame, OneFrame}
+use Rattle.schedule_check.proofs.Chips.{other_chip, plain_chip, registers_plain, subject_is}
+use Rattle.schedule_check.proofs.Acting.{a5_tested}
+use Rattle.schedule_check.proofs.Weighing.{one_frame}
 use Rattle.schedule_check.proofs.Twice.{only_inputs, two_counted, held, tail_count}
-use Rattle.schedule_check.proofs.Tests.{all_here, all_true, not_both, true_of, both, false_of}
+use Rattle.schedule_check.proofs.Passing.{not_both, true_of, both, false_of}
 
 -- ## Nets that no gate drives
 

@@ -1,20 +1,16 @@
 -- A7 of plain cases.
-use Rattle.std.proofs.Common.{◌≡◌, ℕ, zero, suc, ◌+◌, ◌<◌, ◌≤◌, arith, Bool, true, false, not, List, [], ◌∷◌, ◌++◌, length, refl, subst, sym, ap, ◌∙◌}
-use Rattle.std.specs.Prelude.{Option, Some, None, slice_get, IsTrue, ◌↔◌, ◌&&◌}
+use Rattle.std.proofs.Common.{◌≡◌, ℕ, zero, suc, Bool, true, false, List, refl, subst, sym, ◌∙◌}
+use Rattle.std.specs.Prelude.{Option, Some, None, slice_get, IsTrue, ◌↔◌}
 use Rattle.std.specs.List.{list_all}
 use Rattle.emu_machine.specs.declared.netlist.Chip.{Chip}
-use Rattle.emu_machine.specs.declared.netlist.EmuGate.{EmuGate}
-use Rattle.emu_machine.specs.declared.netlist.EmuRegister.{EmuRegister}
 use Rattle.emu_machine.specs.declared.netlist.EmuMemory.{EmuMemory}
-use Rattle.emu_machine.specs.declared.place.Place.{Place}
 use Rattle.emu_machine.specs.declared.place.Place.TheVariants as place
 use Rattle.emu_machine.specs.Netlist.{chip_at}
 use Rattle.emu_machine.specs.Origins.{gate_fits, register_fits}
 use Rattle.emu_machine.specs.Acceptance.{Case, A7, fails_test, mapped_memory_fits}
 use Rattle.schedule_check.specs.Verdict.{IsPlainCase, Meets}
 use Rattle.schedule_check.proofs.Chips.{other_chip, plain_chip}
-use Rattle.schedule_check.proofs.Tests.{all_here, all_true, not_both, true_of, both}
-use Rattle.marks_law.proofs.Plain.{no, left, right}
+use Rattle.schedule_check.proofs.Passing.{all_here, all_true, not_both, true_of}
 
 -- an element at a place fails no test that all pass
 pub none_fails : {X : Type 0} (test : X → Bool) (xs : List X) (k : ℕ) → list_all test xs ≡ true → fails_test test (slice_get xs k) → ⊥

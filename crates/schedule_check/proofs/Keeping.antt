@@ -1,33 +1,31 @@
 -- A9 of plain cases.
-use Rattle.std.proofs.Common.{◌≡◌, ℕ, zero, suc, ◌+◌, ◌<◌, ◌≤◌, arith, Bool, true, false, not, List, [], ◌∷◌, ◌++◌, length, get_or, take, refl, subst, sym, ap, ◌∙◌}
-use Rattle.std.specs.Prelude.{Option, Some, None, slice_get, IsTrue, ◌↔◌, ◌==◌, ◌&&◌, ◌||◌, zip, min}
+use Rattle.std.proofs.Common.{◌≡◌, ℕ, zero, suc, ◌+◌, ◌<◌, ◌≤◌, arith, Bool, true, false, not, List, [], ◌∷◌, length, get_or, take, refl, subst, sym, ap, ◌∙◌}
+use Rattle.std.specs.Prelude.{Option, Some, None, slice_get, IsTrue, ◌↔◌, ◌==◌, ◌||◌, zip, min}
 use Rattle.std.specs.List.{list_all, list_any, enumerate_from}
-use Rattle.std.proofs.lemmas.Option.{none-some, same_Some, slice_get_within, get_or_from_slice_get}
+use Rattle.std.proofs.lemmas.Option.{get_or_from_slice_get}
 use Rattle.std.proofs.lemmas.List.{get_or_past}
 use Rattle.std.proofs.lemmas.List.Folds.{list_any_more}
 use Rattle.std.proofs.lemmas.Slice.Zip.{get_or-zip, length-zip}
 use Rattle.id_arena.specs.declared.keys.NetId.{NetId}
 use Rattle.design_core.specs.declared.element.Element.{Element}
 use Rattle.design_core.specs.declared.element.Element.TheVariants as element
-use Rattle.design_core.specs.declared.parts.Parts.{Parts}
 use Rattle.design_core.specs.declared.parts.Port.{Port}
-use Rattle.design_core.specs.Design.{IsDesign, net_count, port_bits, includes, is_net}
+use Rattle.design_core.specs.Design.{net_count, port_bits, includes, is_net}
 use Rattle.design_core.specs.Plain.{IsPlainElement}
 use Rattle.emu_machine.specs.declared.netlist.Chip.{Chip}
 use Rattle.emu_machine.specs.declared.netlist.EmuRegister.{EmuRegister}
 use Rattle.emu_machine.specs.declared.map.Spot.{Spot}
 use Rattle.emu_machine.specs.declared.results.Results.{Results}
 use Rattle.emu_machine.specs.declared.map.Subject.TheVariants.{Net}
-use Rattle.emu_machine.specs.declared.place.Place.{Place}
 use Rattle.emu_machine.specs.declared.place.Place.TheVariants as place
 use Rattle.emu_machine.specs.Netlist.{chip_at}
 use Rattle.emu_machine.specs.Mapped.{chip_map}
-use Rattle.emu_machine.specs.Acceptance.{Case, A9, FailsA9, fails_test, is_element_mapped, is_register_kept, chip_keeps, output_differs, same_subjects, spot_subject}
+use Rattle.emu_machine.specs.Acceptance.{Case, A9, fails_test, is_element_mapped, is_register_kept, chip_keeps, output_differs, same_subjects, spot_subject}
 use Rattle.history_law.proofs.Naming.{input_bit_is_input, number_same, same_number}
 use Rattle.history_law.proofs.Lists.{any_at}
 use Rattle.schedule_check.specs.Verdict.{IsPlainCase, Meets}
 use Rattle.schedule_check.specs.Mapped.{is_marked, keeps, AreKept, IsMarkedAlso, shown}
-use Rattle.schedule_check.proofs.Tests.{all_here, all_true, all_flat, not_both, true_of, both, false_of, take_past}
+use Rattle.schedule_check.proofs.Passing.{all_here, all_true, all_flat, not_both, true_of, both, false_of, take_past}
 use Rattle.marks_law.proofs.Plain.{no, left, right, not_true}
 
 or_none : (b : Bool) → (b || false) ≡ b

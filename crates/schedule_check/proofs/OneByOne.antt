@@ -11,7 +11,7 @@ use Rattle.schedule_check.proofs.Acting.{meets_a10}
 use Rattle.marks_law.proofs.Plain.{no}
 use Rattle.schedule_check.specs.Verdict.{IsPlainCase, Meets, MeetsBefore, FailsFirst, inside_all, named}
 use Rattle.schedule_check.proofs.Reaching.{influences}
-use Rattle.schedule_check.proofs.Tests.{split_last}
+use Rattle.schedule_check.proofs.Passing.{split_last}
 
 -- the rule of a number
 rule_of : ℕ → Rule

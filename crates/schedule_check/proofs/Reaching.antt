@@ -1,10 +1,9 @@
 -- In a plain design the group of all inputs reaches just the nets that no constant drives.
-use Rattle.std.proofs.Common.{◌≡◌, ℕ, zero, suc, ◌+◌, ◌<◌, ◌≤◌, arith, Bool, true, false, not, List, [], ◌∷◌, ◌++◌, length, map, refl, subst, sym, ap, ◌∙◌, inl, inr}
-use Rattle.std.specs.Prelude.{◌⊎◌, ◌↔◌, Option, Some, None, slice_get, Contains}
+use Rattle.std.proofs.Common.{◌≡◌, ℕ, zero, suc, ◌<◌, ◌≤◌, arith, true, List, [], ◌∷◌, map, refl, subst, sym, ap, ◌∙◌}
+use Rattle.std.specs.Prelude.{Option, Some, slice_get, Contains}
 use Rattle.std.proofs.lemmas.Option.{none-some, same_Some}
 use Rattle.id_arena.specs.declared.keys.NetId.{NetId}
 use Rattle.id_arena.specs.declared.keys.ElemId.{ElemId}
-use Rattle.id_arena.specs.declared.keys.MemId.{MemId}
 use Rattle.design_core.specs.declared.element.Element.{Element}
 use Rattle.design_core.specs.declared.element.Memory.{Memory}
 use Rattle.design_core.specs.declared.element.Driver.{Driver}
@@ -24,7 +23,6 @@ use Rattle.schedule_check.specs.Verdict.{IsPlainCase, moves, inside_all, all_inp
 use Rattle.schedule_check.proofs.Chips.{contained, of_contained, groups_are}
 use Rattle.schedule_check.proofs.Driven.{gate_at, GateAt, no_read, far_driver}
 use Rattle.schedule_check.proofs.Keeping.{any_here}
-use Rattle.schedule_check.proofs.Tests.{true_of, not_both}
 
 none_contained : {X : Type 0} (y : X) → Contains [] y → ⊥
 none_contained y c = let low : c.0 < 0 = c.1 in omega arith

@@ -1,30 +1,26 @@
 -- A2 of plain cases: the graph of the gates.
-use Rattle.std.proofs.Common.{◌≡◌, ℕ, zero, suc, ◌+◌, ◌<◌, ◌≤◌, ◌≢◌, arith, Bool, true, false, not, List, [], ◌∷◌, ◌++◌, length, map, take, get_or, refl, subst, sym, ap, ◌∙◌, if◌then◌else◌, cond, slice_index_or, set}
-use Rattle.std.specs.Prelude.{◌⊎◌, ◌↔◌, ◌==◌, option_map, Option, Some, None, slice_get, slice_set, count_by, flat_map, Contains, replicate, slice_index}
-use Rattle.std.proofs.lemmas.Bool.Decides.{nat_tests}
-use Rattle.std.proofs.lemmas.Option.{none-some, same_Some, slice_get_within, slice_get-get_or, slice_get-map, get_or_from_slice_get}
+use Rattle.std.proofs.Common.{◌≡◌, ℕ, zero, suc, ◌+◌, ◌<◌, ◌≤◌, ◌≢◌, arith, Bool, true, false, List, [], ◌∷◌, ◌++◌, length, refl, subst, sym, ap, ◌∙◌, if◌then◌else◌, cond, set}
+use Rattle.std.specs.Prelude.{◌==◌, option_map, Option, Some, None, slice_get, count_by, flat_map, Contains, slice_index}
+use Rattle.std.proofs.lemmas.Option.{none-some, same_Some, slice_get_within, slice_get-map, get_or_from_slice_get}
 use Rattle.std.proofs.lemmas.List.{get_or-set_same, get_or-set_other, get_or_past, length-set, length-map}
 use Rattle.std.proofs.lemmas.List.Sums.{sum_by-cons}
 use Rattle.id_arena.specs.declared.keys.ChipNetId.{ChipNetId}
 use Rattle.graph_rank.specs.Rows.{row, InRange, Leads, step, through}
-use Rattle.graph_rank.specs.Ranks.{Ranking, IsRanking, AllRanked, HasRank}
+use Rattle.graph_rank.specs.Ranks.{Ranking, IsRanking}
 use Rattle.graph_rank.specs.Cycles.{IsCycle}
 use Rattle.graph_rank.specs.Answers.{RankedHasNoCycle, CyclesComeRound}
 use Rattle.emu_machine.specs.declared.netlist.Chip.{Chip}
 use Rattle.emu_machine.specs.declared.netlist.EmuGate.{EmuGate}
-use Rattle.emu_machine.specs.declared.place.Place.{Place}
 use Rattle.emu_machine.specs.declared.place.Place.TheVariants as place
 use Rattle.emu_machine.specs.Netlist.{chip_at, is_chip_net, net_drivers, LeadsTo, next, through as lead_through, IsOnCycle}
 use Rattle.emu_machine.specs.Plain.{IsPlainGate}
-use Rattle.emu_machine.specs.Acceptance.{Case, A2, FailsA2}
-use Rattle.history_law.proofs.Lists.{counted}
+use Rattle.emu_machine.specs.Acceptance.{Case, A2}
 use Rattle.history_law.proofs.Naming.{number_same, same_number}
-use Rattle.marks_law.proofs.Plain.{no}
-use Rattle.schedule_check.specs.Cycles.{none, gate_named, IsTableOf, IsGateTable, gate_row, AreGateRows, IsGateOrder}
+use Rattle.schedule_check.specs.Cycles.{none, gate_named, IsTableOf, gate_row, AreGateRows}
 use Rattle.schedule_check.specs.Verdict.{IsPlainCase, Meets}
 use Rattle.schedule_check.proofs.Chips.{other_chip, gates_plain, contained, of_contained}
 use Rattle.schedule_check.proofs.Ending.{two_places}
-use Rattle.schedule_check.proofs.Tests.{not_both, true_of, false_of, split_last}
+use Rattle.schedule_check.proofs.Passing.{not_both, false_of, split_last}
 
 -- ## There are no more gates than nets
 

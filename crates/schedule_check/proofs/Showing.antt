@@ -1,6 +1,6 @@
 -- A12 of plain cases: a table that meets the equations of the gates tells what comes through them.
-use Rattle.std.proofs.Common.{◌≡◌, ℕ, zero, suc, ◌+◌, ◌<◌, ◌≤◌, arith, Bool, true, false, not, List, [], ◌∷◌, ◌++◌, length, map, take, get_or, set, refl, subst, sym, ap, ◌∙◌, if◌then◌else◌, cond}
-use Rattle.std.specs.Prelude.{◌⊎◌, ◌↔◌, ◌==◌, ◌&&◌, ◌||◌, IsTrue, Option, Some, None, slice_get, slice_index, find, Contains, zip, min}
+use Rattle.std.proofs.Common.{◌≡◌, ℕ, zero, suc, ◌+◌, ◌<◌, ◌≤◌, arith, Bool, true, false, List, [], ◌∷◌, length, map, take, get_or, set, refl, subst, sym, ap, ◌∙◌, if◌then◌else◌, cond}
+use Rattle.std.specs.Prelude.{◌↔◌, ◌==◌, ◌&&◌, ◌||◌, IsTrue, Option, Some, None, slice_get, slice_index, find, Contains, zip, min}
 use Rattle.std.specs.List.{list_all, list_any}
 use Rattle.std.specs.Option.{option_map_or}
 use Rattle.std.proofs.lemmas.Option.{none-some, same_Some, slice_get_within, get_or_from_slice_get}
@@ -8,23 +8,22 @@ use Rattle.std.proofs.lemmas.List.{get_or-set_same, get_or-set_other, length-set
 use Rattle.std.proofs.lemmas.List.Folds.{list_any_more}
 use Rattle.std.proofs.lemmas.Slice.Zip.{get_or-zip, length-zip}
 use Rattle.id_arena.specs.declared.keys.ChipNetId.{ChipNetId}
-use Rattle.graph_rank.specs.Ranks.{Ranking, IsRanking, IsOrder}
+use Rattle.graph_rank.specs.Ranks.{Ranking}
 use Rattle.graph_rank.specs.Answers.{RankingsAreSorted}
 use Rattle.emu_machine.specs.declared.netlist.Chip.{Chip}
 use Rattle.emu_machine.specs.declared.netlist.EmuGate.{EmuGate}
 use Rattle.emu_machine.specs.declared.netlist.EmuMemory.{EmuMemory}
 use Rattle.emu_machine.specs.declared.netlist.EmuRegister.{EmuRegister}
 use Rattle.emu_machine.specs.declared.map.Spot.{Spot}
-use Rattle.emu_machine.specs.declared.place.Place.{Place}
 use Rattle.emu_machine.specs.declared.place.Place.TheVariants as place
 use Rattle.emu_machine.specs.Netlist.{chip_at, is_chip_net, gate_of, on_net, through_gates}
-use Rattle.emu_machine.specs.Mapped.{subject, chip_map, is_kept, kept_by_register, kept_by_read}
+use Rattle.emu_machine.specs.Mapped.{subject, chip_map, is_kept, kept_by_register}
 use Rattle.emu_machine.specs.Marks.{Mark, no_mark, only_before, copied_mark}
 use Rattle.emu_machine.specs.Plain.{IsPlainGate}
 use Rattle.emu_machine.specs.Origins.{gate_fits}
-use Rattle.emu_machine.specs.Acceptance.{Case, A7, A12, shows_before, plain_gate_mark, fails_test}
+use Rattle.emu_machine.specs.Acceptance.{Case, A7, A12, shows_before, plain_gate_mark}
 use Rattle.history_law.proofs.Naming.{number_same, same_number}
-use Rattle.marks_law.proofs.Plain.{no, found}
+use Rattle.marks_law.proofs.Plain.{found}
 use Rattle.schedule_check.specs.Cycles.{IsGateOrder}
 use Rattle.schedule_check.specs.Ends.{AreMarkedAlso}
 use Rattle.schedule_check.specs.Outputs.{shows, IsPassed, ArePassed, ArePassedTo}
@@ -34,7 +33,7 @@ use Rattle.schedule_check.proofs.Copying.{copy_marked}
 use Rattle.schedule_check.proofs.Ending.{unpassed}
 use Rattle.schedule_check.proofs.Fitting.{gates_of_a7, none_fails, none_failed}
 use Rattle.schedule_check.proofs.Rounds.{row_has, row_count, same_gate}
-use Rattle.schedule_check.proofs.Tests.{all_here, not_both, true_of, false_of, split_last, take_past}
+use Rattle.schedule_check.proofs.Passing.{all_here, not_both, split_last, take_past}
 
 unfound : {X : Type 0} (p : X → Bool) (xs : List X) (k : ℕ) (x : X) → find p xs ≡ None → slice_get xs k ≡ Some x → p x ≡ true → ⊥
 unfound p [] k x e at h = none-some x at

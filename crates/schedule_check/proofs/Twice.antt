@@ -1,12 +1,11 @@
 -- A6 of plain cases: no register is used twice in a slot.
-use Rattle.std.proofs.Common.{◌≡◌, ℕ, zero, suc, ◌+◌, ◌<◌, ◌≤◌, arith, Bool, true, false, not, List, [], ◌∷◌, ◌++◌, length, get_or, take, refl, subst, sym, ap, ◌∙◌, cond, if◌then◌else◌}
+use Rattle.std.proofs.Common.{◌≡◌, ℕ, zero, suc, ◌+◌, ◌<◌, ◌≤◌, arith, Bool, true, false, List, [], ◌∷◌, length, get_or, take, refl, subst, sym, ap, ◌∙◌, cond, if◌then◌else◌}
 use Rattle.std.specs.Prelude.{Option, Some, None, slice_get, IsTrue, ◌↔◌, ◌==◌, ◌&&◌, ◌||◌, count_by, nat_lt, is_some, option_and_then}
 use Rattle.std.specs.List.{list_all, list_any}
 use Rattle.std.specs.Option.{option_map_or}
 use Rattle.std.proofs.lemmas.Bool.Decides.{nat_tests}
-use Rattle.std.proofs.lemmas.Option.{none-some, same_Some, slice_get_within, get_or_from_slice_get, slice_get-get_or}
+use Rattle.std.proofs.lemmas.Option.{none-some, slice_get_within, get_or_from_slice_get}
 use Rattle.std.proofs.lemmas.List.Sums.{count_by_more_yes, sum_by-take-le, sum_by-cons}
-use Rattle.id_arena.specs.declared.keys.RegId.{RegId}
 use Rattle.id_arena.specs.declared.keys.ChipNetId.{ChipNetId}
 use Rattle.id_arena.specs.declared.wire.Wire.{Wire}
 use Rattle.emu_machine.specs.declared.netlist.EmuRegister.{EmuRegister}
@@ -15,7 +14,6 @@ use Rattle.emu_machine.specs.declared.netlist.Chip.{Chip}
 use Rattle.emu_machine.specs.declared.schedule.Action.{Action}
 use Rattle.emu_machine.specs.declared.schedule.Action.TheVariants as action
 use Rattle.emu_machine.specs.declared.schedule.Slot.{Slot}
-use Rattle.emu_machine.specs.declared.place.Place.{Place}
 use Rattle.emu_machine.specs.declared.place.Place.TheVariants as place
 use Rattle.emu_machine.specs.declared.place.Thing.{Thing}
 use Rattle.emu_machine.specs.declared.place.Thing.TheVariants as thing
@@ -25,13 +23,11 @@ use Rattle.emu_machine.specs.Acceptance.{Case, A4, A5, A6, slot_actions, action_
 use Rattle.history_law.proofs.Lists.{counted}
 use Rattle.history_law.proofs.Naming.{number_same, same_number}
 use Rattle.marks_law.proofs.Plain.{no, left, right}
-use Rattle.schedule_check.specs.declared.actions.Test.TheVariants.{IsThere}
-use Rattle.schedule_check.specs.Uses.{target, targets, target_below, IsUsedOnce, AreUsedOnce, is_stamped, Stamps, IsLaterUse}
-use Rattle.schedule_check.specs.Verdict.{IsPlainCase, Meets, MeetsBefore}
+use Rattle.schedule_check.specs.Uses.{target, targets, target_below, IsUsedOnce, AreUsedOnce, is_stamped, IsLaterUse}
+use Rattle.schedule_check.specs.Verdict.{IsPlainCase, Meets}
 use Rattle.schedule_check.proofs.Chips.{other_chip, plain_chip, registers_plain}
 use Rattle.schedule_check.proofs.Acting.{later_slots, a5_tested}
-use Rattle.schedule_check.proofs.Keeping.{any_here}
-use Rattle.schedule_check.proofs.Tests.{all_here, all_true, not_both, true_of, both, false_of, take_past}
+use Rattle.schedule_check.proofs.Passing.{all_here, all_true, both, take_past}
 
 -- ## Counts
 

@@ -1,20 +1,16 @@
 -- A1, A3 and A4 of plain cases.
-use Rattle.std.proofs.Common.{◌≡◌, ℕ, zero, suc, ◌+◌, ◌<◌, ◌≤◌, arith, Bool, true, false, not, List, [], ◌∷◌, ◌++◌, length, refl, subst, sym, ap, ◌∙◌}
-use Rattle.std.specs.Prelude.{Option, Some, None, slice_get, IsTrue, IsSomeAnd, sum_by, ◌↔◌, nat_lt, nat_le}
+use Rattle.std.proofs.Common.{◌≡◌, ℕ, zero, suc, ◌<◌, ◌≤◌, arith, Bool, true, false, not, List, [], ◌∷◌, length, refl, subst, sym, ap, ◌∙◌}
+use Rattle.std.specs.Prelude.{Some, slice_get, IsTrue, IsSomeAnd, sum_by, ◌↔◌, nat_le}
 use Rattle.std.proofs.lemmas.Option.{none-some, same_Some}
-use Rattle.design_core.specs.Influence.{Group, all_groups}
-use Rattle.emu_machine.specs.declared.netlist.EmuGate.{EmuGate}
-use Rattle.emu_machine.specs.declared.netlist.EmuMemory.{EmuMemory}
-use Rattle.emu_machine.specs.declared.netlist.Chip.{Chip}
+use Rattle.design_core.specs.Influence.{Group}
 use Rattle.emu_machine.specs.declared.schedule.Frame.{Frame}
 use Rattle.emu_machine.specs.declared.place.Place.{Place}
 use Rattle.emu_machine.specs.declared.place.Place.TheVariants as place
 use Rattle.emu_machine.specs.Netlist.{chip_at}
-use Rattle.emu_machine.specs.Mapped.{subject}
-use Rattle.emu_machine.specs.Acceptance.{Case, A1, A3, A4, subject_weight, memory_weight, chip_weight, frame_differs, frame_fits, FailsA1, FailsA3, FailsA4}
+use Rattle.emu_machine.specs.Acceptance.{Case, A1, A3, A4, memory_weight, chip_weight, frame_differs, frame_fits, FailsA3, FailsA4}
 use Rattle.schedule_check.specs.Verdict.{IsPlainCase, Meets, all_inputs, gate_weights}
 use Rattle.schedule_check.proofs.Chips.{plain_chip, groups_are}
-use Rattle.schedule_check.proofs.Tests.{true_of, optional}
+use Rattle.schedule_check.proofs.Passing.{true_of}
 use Rattle.std.proofs.lemmas.Bool.Decides.{nat_tests}
 use Rattle.marks_law.proofs.Plain.{no}
 

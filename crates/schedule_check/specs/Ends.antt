@@ -1,9 +1,8 @@
 -- What the judge asks of the registers at the end of the frame.
 -- The rule is told in docs/RULES.md, "Acceptance" and "Marks".
-use Rattle.std.specs.Prelude.{◌≡◌, ◌<◌, ℕ, ◌||◌, ◌&&◌, Bool, true, false, not, Some, List, length, get_or, slice_get}
+use Rattle.std.specs.Prelude.{◌≡◌, ◌<◌, ℕ, ◌||◌, Bool, true, false, not, Some, List, length, get_or, slice_get}
 use Rattle.std.specs.List.{list_any}
 use Rattle.emu_machine.specs.declared.netlist.EmuRegister.{EmuRegister}
-use Rattle.emu_machine.specs.declared.schedule.Action.{Action}
 use Rattle.emu_machine.specs.declared.schedule.Slot.{Slot}
 use Rattle.emu_machine.specs.Mapped.{subject}
 use Rattle.emu_machine.specs.Netlist.{chip_at}

@@ -1,6 +1,6 @@
 -- What the judge asks of input bits and output bits.
 -- The rule is told in docs/RULES.md, "Acceptance".
-use Rattle.std.specs.Prelude.{◌≡◌, ◌<◌, ℕ, ◌&&◌, ◌||◌, Bool, true, false, Option, Some, None, List, [], ◌∷◌, ◌++◌, length, get_or}
+use Rattle.std.specs.Prelude.{◌≡◌, ◌<◌, ◌&&◌, ◌||◌, Bool, true, false, Option, Some, None, List, [], ◌∷◌, ◌++◌, length, get_or}
 use Rattle.std.specs.List.{list_any}
 use Rattle.id_arena.specs.declared.keys.NetId.{NetId}
 use Rattle.emu_machine.specs.declared.netlist.EmuRegister.{EmuRegister}

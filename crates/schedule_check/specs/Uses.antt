@@ -1,6 +1,6 @@
 -- What the judge asks of the registers that a slot uses.
 -- The rule is told in docs/RULES.md, "Acceptance".
-use Rattle.std.specs.Prelude.{◌≡◌, ◌≤◌, ◌<◌, ℕ, ◌==◌, ◌||◌, nat_lt, Bool, true, false, Option, Some, None, List, length, get_or, slice_get, count_by}
+use Rattle.std.specs.Prelude.{◌≡◌, ◌≤◌, ℕ, ◌==◌, ◌||◌, nat_lt, Bool, true, false, Option, Some, None, List, length, get_or, slice_get, count_by}
 use Rattle.std.specs.Option.{option_map_or}
 use Rattle.id_arena.specs.declared.keys.RegId.{RegId}
 use Rattle.emu_machine.specs.declared.schedule.Action.{Action}

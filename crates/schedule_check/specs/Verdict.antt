@@ -1,6 +1,6 @@
 -- What the judge is asked of plain results, and when its verdict is right.
 -- The rule is told in docs/RULES.md, "Acceptance".
-use Rattle.std.specs.Prelude.{◌≡◌, ◌<◌, ℕ, Bool, true, false, not, Option, Some, None, List, [], ◌∷◌, slice_get, sum_by, codes}
+use Rattle.std.specs.Prelude.{◌≡◌, ◌<◌, ℕ, Bool, true, false, Option, Some, None, List, [], ◌∷◌, slice_get, sum_by, codes}
 use Rattle.id_arena.specs.declared.keys.NetId.{NetId}
 use Rattle.id_arena.specs.declared.keys.ElemId.{ElemId}
 use Rattle.design_core.specs.declared.operation.Op.{Op}

@@ -1,11 +1,11 @@
 -- The tests of the code come to the rule.
-use Rattle.std.proofs.Common.{◌∙◌, sym, ap, arith}
+use Rattle.std.proofs.Common.{◌∙◌, ap, arith}
 use Rattle.emu_machine.specs.Acceptance.{A4}
 use Rattle.emu_machine.specs.State.{frame_slots}
 use Rattle.schedule_check.specs.declared.actions.Test.TheVariants.{IsThere}
 use Rattle.schedule_check.specs.Actions.{slots_pass}
 use Rattle.schedule_check.proofs.Acting.{a5_tested}
-use Rattle.schedule_check.proofs.Tests.{same_test}
+use Rattle.schedule_check.proofs.Passing.{same_test}
 use Rattle.schedule_check.proofs.actions.actions_are_there.Goals as goal
 
 pub returns : goal.returns

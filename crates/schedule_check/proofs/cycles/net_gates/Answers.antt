@@ -1,11 +1,11 @@
 -- One gate after the other is put into the table.
-use Rattle.std.proofs.Common.{◌≡◌, ◌<◌, ◌≤◌, ◌∙◌, sym, ap, subst, ℕ, arith, length, List, set, get_or}
+use Rattle.std.proofs.Common.{◌≡◌, ◌<◌, ◌≤◌, ◌∙◌, sym, ap, ℕ, arith, length, List, set}
 use Rattle.std.specs.Prelude.{slice_get, Some}
 use Rattle.emu_machine.specs.declared.netlist.EmuGate.{EmuGate}
 use Rattle.emu_machine.specs.Netlist.{chip_at}
 use Rattle.schedule_check.proofs.Chips.{gates_plain}
-use Rattle.schedule_check.proofs.Rounds.{few_gates, same_gate, one_more}
-use Rattle.schedule_check.proofs.Tests.{here}
+use Rattle.schedule_check.proofs.Rounds.{few_gates, one_more}
+use Rattle.schedule_check.proofs.Passing.{here}
 use Rattle.schedule_check.proofs.cycles.net_gates.Goals as goal
 
 pub overflow_cast-k : goal.overflow_cast-k

@@ -1,14 +1,14 @@
 -- One register after the other is tested.
-use Rattle.std.proofs.Common.{◌≡◌, ◌≤◌, ◌<◌, ◌+◌, ◌∙◌, sym, ap, subst, ℕ, arith, length, List, Bool, true, false, refl, get_or, None}
-use Rattle.std.specs.Prelude.{slice_get, Some}
+use Rattle.std.proofs.Common.{◌≡◌, ◌≤◌, ◌<◌, ◌∙◌, sym, ap, subst, ℕ, arith, length, List, refl, get_or, None}
+use Rattle.std.specs.Prelude.{slice_get}
 use Rattle.std.proofs.lemmas.Option.{slice_get-get_or, slice_get_within, same_Some}
 use Rattle.emu_machine.specs.declared.netlist.EmuRegister.{EmuRegister}
 use Rattle.emu_machine.specs.Netlist.{chip_at}
-use Rattle.marks_law.proofs.Plain.{no, must_not}
+use Rattle.marks_law.proofs.Plain.{no}
 use Rattle.schedule_check.specs.Ends.{register_done}
 use Rattle.schedule_check.proofs.Chips.{entry_fits}
 use Rattle.schedule_check.proofs.Ending.{test_is}
-use Rattle.schedule_check.proofs.Tests.{split_last}
+use Rattle.schedule_check.proofs.Passing.{split_last}
 use Rattle.schedule_check.proofs.ends.registers_done.Goals as goal
 
 pub bounds-kept-i : goal.bounds-kept-i

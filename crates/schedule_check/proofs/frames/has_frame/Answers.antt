@@ -1,6 +1,5 @@
 -- Where A4 holds there is one frame.
-use Rattle.std.proofs.Common.{◌≡◌, ◌∙◌, sym, ap, length, ℕ, arith}
-use Rattle.std.specs.Prelude.{slice_get, Some}
+use Rattle.std.proofs.Common.{◌≡◌, ◌∙◌, sym, ap, length, arith}
 use Rattle.std.proofs.lemmas.Option.{slice_get_read}
 use Rattle.schedule_check.proofs.Weighing.{frame_tested, no_frame, one_element}
 use Rattle.schedule_check.proofs.frames.has_frame.Goals as goal

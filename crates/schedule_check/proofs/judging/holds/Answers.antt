@@ -1,10 +1,8 @@
 -- Each rule has its test.
-use Rattle.std.proofs.Common.{◌≡◌, ◌∙◌, sym, subst, inl, inr, arith, Bool, true, false, ap, refl}
-use Rattle.std.specs.Prelude.{IsTrue, ◌↔◌, IfOk, is_some, Some, None}
-use Rattle.marks_law.proofs.Plain.{no}
+use Rattle.std.proofs.Common.{sym, subst}
+use Rattle.std.specs.Prelude.{IsTrue, ◌↔◌, IfOk}
 use Rattle.schedule_check.specs.declared.verdict.Rule.{Rule}
-use Rattle.schedule_check.specs.declared.verdict.Rule.TheVariants as declared
-use Rattle.schedule_check.specs.Verdict.{named, Meets, MeetsBefore}
+use Rattle.schedule_check.specs.Verdict.{named, Meets}
 use Rattle.schedule_check.proofs.OneByOne.{always_holds, ordered, unordered}
 use Rattle.schedule_check.proofs.judging.holds.Goals as goal
 

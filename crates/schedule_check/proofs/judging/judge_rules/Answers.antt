@@ -1,7 +1,7 @@
 -- The first rule that does not hold is told.
 use Rattle.schedule_check.specs.Verdict.{named}
 use Rattle.schedule_check.proofs.OneByOne.{accepts, rejects}
-use Rattle.schedule_check.proofs.Tests.{not_both}
+use Rattle.schedule_check.proofs.Passing.{not_both}
 use Rattle.schedule_check.proofs.judging.judge_rules.Goals as goal
 
 pub returns-then-not-held : goal.returns-then-not-held

@@ -1,5 +1,5 @@
 -- Where no net of the machine is left, and a bit is, the bits are not shown.
-use Rattle.std.proofs.Common.{◌≡◌, ◌<◌, ◌+◌, ◌-◌, ◌++◌, ◌∙◌, sym, ℕ, arith, length, drop, length-append, length-drop}
+use Rattle.std.proofs.Common.{◌≡◌, ◌<◌, ◌+◌, ◌-◌, ◌++◌, ◌∙◌, sym, arith, length, drop, length-append, length-drop}
 use Rattle.schedule_check.proofs.Keeping.{none_left}
 use Rattle.schedule_check.proofs.mapped.after_nets.Goals as goal
 

@@ -1,5 +1,4 @@
 -- The tests of the code come to the rule.
-use Rattle.std.proofs.Common.{◌≡◌, ◌∙◌, sym, ap}
 use Rattle.schedule_check.proofs.Keeping.{all_mapped, inputs_unmapped}
 use Rattle.schedule_check.proofs.mapped.are_mapped.Goals as goal
 

@@ -1,6 +1,6 @@
 -- One register after the other is marked.
-use Rattle.std.proofs.Common.{◌≡◌, ◌≤◌, ◌<◌, ◌∙◌, sym, ap, subst, ℕ, arith, length, List, Bool, false, take, refl, replicate, [], None}
-use Rattle.std.specs.Prelude.{zip, Some, slice_get}
+use Rattle.std.proofs.Common.{◌≡◌, ◌<◌, ◌∙◌, sym, ap, subst, arith, length, List, Bool, false, None}
+use Rattle.std.specs.Prelude.{zip}
 use Rattle.std.proofs.lemmas.Option.{slice_get-get_or}
 use Rattle.emu_machine.specs.declared.netlist.EmuRegister.{EmuRegister}
 use Rattle.emu_machine.specs.Mapped.{chip_map}

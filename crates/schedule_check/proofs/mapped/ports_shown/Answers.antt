@@ -1,5 +1,5 @@
 -- At the end no net of the machine may be left.
-use Rattle.std.proofs.Common.{◌≡◌, ◌∙◌, sym, List}
+use Rattle.std.proofs.Common.{◌∙◌, sym, List}
 use Rattle.std.proofs.lemmas.List.{at_drop_all}
 use Rattle.design_core.specs.declared.parts.Port.{Port}
 use Rattle.design_core.specs.Design.{port_bits}

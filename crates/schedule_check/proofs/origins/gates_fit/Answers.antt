@@ -1,5 +1,5 @@
 -- The gate at hand is one of the gates.
-use Rattle.schedule_check.proofs.Tests.{here}
+use Rattle.schedule_check.proofs.Passing.{here}
 use Rattle.schedule_check.proofs.origins.gates_fit.Goals as goal
 
 pub is_copy-requires : goal.is_copy-requires

@@ -1,7 +1,6 @@
 -- A gate fits where it is the gate that drives the net of its subject.
-use Rattle.std.proofs.Common.{◌≡◌, ◌∙◌, sym, ap, List, [], ◌∷◌, refl, Bool, true, false, ℕ}
-use Rattle.std.specs.Prelude.{◌&&◌, Option, Some, option_map}
-use Rattle.id_arena.specs.declared.keys.NetId.{NetId}
+use Rattle.std.proofs.Common.{◌∙◌, sym, ap, [], ◌∷◌}
+use Rattle.std.specs.Prelude.{◌&&◌, option_map}
 use Rattle.emu_machine.specs.declared.map.Subject.TheVariants.{Net}
 use Rattle.emu_machine.specs.Origins.{have_subjects}
 use Rattle.schedule_check.proofs.Copying.{copy_fits, op_tested}

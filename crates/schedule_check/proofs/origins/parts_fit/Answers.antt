@@ -1,11 +1,10 @@
 -- The tests of the code come to the rule.
-use Rattle.std.proofs.Common.{◌≡◌, ◌∙◌, sym, ap, List, subst}
+use Rattle.std.proofs.Common.{◌≡◌, ◌∙◌, ap, List, subst}
 use Rattle.std.specs.Prelude.{slice_get, Some}
 use Rattle.std.specs.List.{list_all}
 use Rattle.emu_machine.specs.declared.netlist.EmuGate.{EmuGate}
-use Rattle.emu_machine.specs.declared.netlist.EmuRegister.{EmuRegister}
 use Rattle.emu_machine.specs.Origins.{gate_fits, register_fits}
-use Rattle.schedule_check.proofs.Chips.{gates_plain, registers_plain}
+use Rattle.schedule_check.proofs.Chips.{gates_plain}
 use Rattle.schedule_check.proofs.Fitting.{both_fit, gates_misfit}
 use Rattle.schedule_check.proofs.origins.parts_fit.Goals as goal
 

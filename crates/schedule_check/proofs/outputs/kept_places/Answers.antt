@@ -1,6 +1,6 @@
 -- One register after the other is marked.
-use Rattle.std.proofs.Common.{◌≡◌, ◌≤◌, ◌<◌, ◌∙◌, sym, ap, subst, ℕ, arith, length, List, Bool, false, get_or, None}
-use Rattle.std.specs.Prelude.{zip, Some, slice_get}
+use Rattle.std.proofs.Common.{◌≡◌, ◌<◌, ◌∙◌, sym, ap, arith, length, List, Bool, false, get_or, None}
+use Rattle.std.specs.Prelude.{zip}
 use Rattle.std.specs.List.{list_any}
 use Rattle.std.proofs.lemmas.Option.{slice_get-get_or}
 use Rattle.emu_machine.specs.declared.netlist.EmuRegister.{EmuRegister}

@@ -1,14 +1,12 @@
 -- The gate at hand is one of the chip, and stands after those that drive its input.
-use Rattle.std.proofs.Common.{◌≡◌, ◌≤◌, ◌<◌, ◌∙◌, sym, ap, subst, ℕ, arith, length, List, Bool, get_or}
+use Rattle.std.proofs.Common.{◌≡◌, ◌≤◌, ◌<◌, ◌∙◌, sym, ap, subst, ℕ, length, List, get_or}
 use Rattle.std.specs.Prelude.{Some, slice_get, slice_index}
 use Rattle.emu_machine.specs.declared.netlist.EmuGate.{EmuGate}
 use Rattle.emu_machine.specs.Netlist.{chip_at}
-use Rattle.schedule_check.specs.Verdict.{IsPlainCase}
-use Rattle.emu_machine.specs.Acceptance.{Case}
 use Rattle.schedule_check.proofs.Chips.{gates_plain}
 use Rattle.schedule_check.proofs.Rounds.{row_count}
-use Rattle.schedule_check.proofs.Showing.{pass_step, all_passed, count}
-use Rattle.schedule_check.proofs.Tests.{here}
+use Rattle.schedule_check.proofs.Showing.{pass_step, all_passed}
+use Rattle.schedule_check.proofs.Passing.{here}
 use Rattle.schedule_check.proofs.outputs.pass_gates.Goals as goal
 
 -- the gate that is read stands at the place that the order names

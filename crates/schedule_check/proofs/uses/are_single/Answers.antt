@@ -1,5 +1,5 @@
 -- Where the actions are there, the loop finds what the rule asks for.
-use Rattle.std.proofs.Common.{◌≡◌, ◌<◌, ◌∙◌, sym, ap, subst, List, length, ℕ, arith}
+use Rattle.std.proofs.Common.{◌<◌, ◌∙◌, sym, ap, subst, List, length, ℕ, arith}
 use Rattle.std.specs.Prelude.{IsTrue}
 use Rattle.std.specs.List.{list_all}
 use Rattle.emu_machine.specs.declared.schedule.Slot.{Slot}

@@ -1,11 +1,10 @@
 -- One slot after the other.
-use Rattle.std.proofs.Common.{◌≡◌, ◌≤◌, ◌<◌, ◌+◌, ◌∙◌, sym, ap, subst, false, refl, ℕ, arith, length, take, List, get_or}
-use Rattle.std.specs.Prelude.{slice_get, Some}
+use Rattle.std.proofs.Common.{◌+◌, ◌∙◌, sym, ap, subst, refl, ℕ, List}
 use Rattle.marks_law.proofs.Plain.{no}
 use Rattle.emu_machine.specs.declared.schedule.Action.{Action}
 use Rattle.emu_machine.specs.declared.schedule.Slot.{Slot}
 use Rattle.schedule_check.specs.Uses.{AreUsedOnce, IsUsedOnce}
-use Rattle.schedule_check.proofs.Tests.{here, take_past, take_at}
+use Rattle.schedule_check.proofs.Passing.{here, take_past, take_at}
 use Rattle.schedule_check.proofs.uses.slots_use_once.Goals as goal
 
 pub returns-then-not-uses_once : goal.returns-then-not-uses_once

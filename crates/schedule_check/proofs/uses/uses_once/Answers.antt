@@ -1,5 +1,5 @@
 -- A register that is used again is counted twice.
-use Rattle.std.proofs.Common.{◌≡◌, ◌∙◌, sym, false, refl}
+use Rattle.std.proofs.Common.{refl}
 use Rattle.std.proofs.lemmas.Option.{slice_get-get_or}
 use Rattle.marks_law.proofs.Plain.{no}
 use Rattle.schedule_check.proofs.Twice.{used_twice, used_once}

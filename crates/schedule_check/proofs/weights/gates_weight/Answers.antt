@@ -1,10 +1,10 @@
 -- One more gate, of one input.
-use Rattle.std.proofs.Common.{◌≡◌, ◌+◌, ◌<◌, ◌≤◌, ◌∙◌, ℕ, arith, drop, sym, ap, get_or, length}
+use Rattle.std.proofs.Common.{◌≡◌, ◌+◌, ◌<◌, ℕ, arith, drop, length}
 use Rattle.emu_machine.specs.declared.netlist.EmuGate.{EmuGate}
 use Rattle.emu_machine.specs.Acceptance.{subject_weight}
 use Rattle.emu_machine.specs.Mapped.{subject}
 use Rattle.schedule_check.specs.Verdict.{gate_weights}
-use Rattle.schedule_check.proofs.Tests.{here, sum_step}
+use Rattle.schedule_check.proofs.Passing.{here, sum_step}
 use Rattle.schedule_check.proofs.weights.gates_weight.Goals as goal
 
 pub each-preserved : goal.each-preserved

@@ -1,5 +1,5 @@
 -- Gates of a plain chip have one input, and the rule asks for just this weight.
-use Rattle.std.proofs.Common.{◌≡◌, ◌∙◌, sym, ap, List, length, subst}
+use Rattle.std.proofs.Common.{◌≡◌, ◌∙◌, ap, List, length, subst}
 use Rattle.std.specs.Prelude.{slice_get, Some}
 use Rattle.emu_machine.specs.declared.netlist.EmuGate.{EmuGate}
 use Rattle.schedule_check.specs.Verdict.{gate_weights}

@@ -11,7 +11,6 @@ use Rattle.design_core.specs.declared.element.Element.TheVariants.{Gate}
 use Rattle.design_core.specs.declared.parts.Parts.{Parts}
 use Rattle.design_core.specs.Design.{driver}
 use Rattle.design_core.specs.Plain.{IsPlain}
-use Rattle.schedule_check.specs.Verdict.{Stem}
 use Rattle.schedule_check.proofs.Driven.{gate_at, one_input, stem_some, GateAt}
 use Rattle.schedule_check.proofs.plain_case.PlainCase.stem.Goals as goal
 

@@ -1,8 +1,7 @@
 -- Tests that all elements of a list pass, and small facts on tests and options.
-use Rattle.std.proofs.Common.{◌≡◌, ℕ, zero, suc, ◌+◌, ◌<◌, ◌≤◌, arith, Bool, true, false, not, List, [], ◌∷◌, ◌++◌, length, get_or, drop, take, refl, subst, sym, ap, ◌∙◌}
-use Rattle.std.specs.Prelude.{◌&&◌, ◌||◌, ◌↔◌, Option, Some, None, slice_get, flat_map, sum_by, nat_lt, Contains, is_some, unwrap_or, option_map}
-use Rattle.std.specs.List.{list_all, list_any}
-use Rattle.std.specs.Option.{option_map_or}
+use Rattle.std.proofs.Common.{◌≡◌, ℕ, zero, suc, ◌+◌, ◌<◌, ◌≤◌, arith, Bool, true, false, List, [], ◌∷◌, length, get_or, drop, take, refl, subst, sym, ap, ◌∙◌}
+use Rattle.std.specs.Prelude.{◌&&◌, ◌↔◌, Option, Some, None, slice_get, flat_map, sum_by, nat_lt}
+use Rattle.std.specs.List.{list_all}
 use Rattle.std.proofs.lemmas.Option.{none-some, same_Some, slice_get_read}
 use Rattle.std.proofs.lemmas.List.Sums.{sum_by-drop_more}
 use Rattle.std.proofs.lemmas.Bool.Decides.{nat_tests}
