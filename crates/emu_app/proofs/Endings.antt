@@ -1,6 +1,7 @@
 -- What the end of a command says at the statuses Ok, Rejected and Usage.
 use Rattle.std.proofs.Common.{ℕ, ◌≡◌, List, Option, Some, None, IfSome, refl, subst}
 use Rattle.emu_io.specs.Files.{Held}
+use Rattle.emu_machine.specs.declared.schedule.Schedule.{Schedule}
 use Rattle.emu_app.specs.declared.answer.Answer.{Answer}
 use Rattle.emu_app.specs.declared.answer.Answer.TheVariants as answer
 use Rattle.emu_app.specs.declared.status.Status.{Status}
@@ -13,8 +14,8 @@ use Rattle.emu_app.specs.Printing.{status_of}
 use Rattle.emu_app.specs.Answers.{CommandMeans, HeldMeans, Prints, Ends, WorkMeans}
 use Rattle.emu_app.specs.Outcomes.{IsOk, IsRejected, OkHolds, RejectedHolds}
 
-accepted_work : (held : Held) (n : CommandWords) (texts : Texts) (group : List ℕ) (command : Command) → n.command ≡ command → AreHeld held n texts → WorkMeans command n.top texts (answer.Accepted group) → OkHolds command n held
-accepted_work held n texts group Check is are means =
+accepted_work : (held : Held) (n : CommandWords) (texts : Texts) (schedule : Schedule) (command : Command) → n.command ≡ command → AreHeld held n texts → WorkMeans command n.top texts (answer.Accepted schedule) → OkHolds command n held
+accepted_work held n texts schedule Check is are means =
     record {
       texts = texts;
       are_held = are;
@@ -23,12 +24,12 @@ accepted_work held n texts group Check is are means =
       accepted = means.accepted;
       headline = means.headline;
     }
-accepted_work held n texts group Settle is are means = absurd means
-accepted_work held n texts group Replay is are means = absurd means
+accepted_work held n texts schedule Settle is are means = absurd means
+accepted_work held n texts schedule Replay is are means = absurd means
 
-accepted_held : (told : Option Held) (n : CommandWords) (group : List ℕ) → IfSome told (λ held. HeldMeans held n (answer.Accepted group)) → IfSome told (OkHolds n.command n)
-accepted_held None n group means = tt
-accepted_held (Some held) n group means = accepted_work held n means.texts group n.command refl means.are_held means.means
+accepted_held : (told : Option Held) (n : CommandWords) (schedule : Schedule) → IfSome told (λ held. HeldMeans held n (answer.Accepted schedule)) → IfSome told (OkHolds n.command n)
+accepted_held None n schedule means = tt
+accepted_held (Some held) n schedule means = accepted_work held n means.texts schedule n.command refl means.are_held means.means
 
 rejected_work : (held : Held) (n : CommandWords) (texts : Texts) (command : Command) → n.command ≡ command → AreHeld held n texts → WorkMeans command n.top texts answer.Rejected → RejectedHolds command n held
 rejected_work held n texts Check is are means =
@@ -49,8 +50,8 @@ rejected_held (Some held) n means = rejected_work held n means.texts n.command r
 -- by the answer that was found
 ok_found : (told : Option Held) (before now : ℕ) (blamed : Option (List ℕ)) (words : List (List ℕ)) (found : Answer) → CommandMeans told before now blamed words found → status_of found ≡ status.Ok → IsOk told words
 ok_found told before now blamed words answer.Usage means is = absurd (let e : status.Usage ≡ status.Ok = is in cc)
-ok_found told before now blamed words (answer.Accepted group) means is =
-    record { names = means.names; shape = means.shape; held = accepted_held told means.names group means.means }
+ok_found told before now blamed words (answer.Accepted schedule) means is =
+    record { names = means.names; shape = means.shape; held = accepted_held told means.names schedule means.means }
 ok_found told before now blamed words answer.Rejected means is = absurd (let e : status.Rejected ≡ status.Ok = is in cc)
 ok_found told before now blamed words (answer.TooLarge what) means is = absurd (let e : status.Refused ≡ status.Ok = is in cc)
 ok_found told before now blamed words (answer.Refused what) means is = absurd (let e : status.Refused ≡ status.Ok = is in cc)
@@ -58,7 +59,7 @@ ok_found told before now blamed words (answer.ReadFault name) means is = absurd 
 
 rejected_found : (told : Option Held) (before now : ℕ) (blamed : Option (List ℕ)) (words : List (List ℕ)) (found : Answer) → CommandMeans told before now blamed words found → status_of found ≡ status.Rejected → IsRejected told words
 rejected_found told before now blamed words answer.Usage means is = absurd (let e : status.Usage ≡ status.Rejected = is in cc)
-rejected_found told before now blamed words (answer.Accepted group) means is = absurd (let e : status.Ok ≡ status.Rejected = is in cc)
+rejected_found told before now blamed words (answer.Accepted schedule) means is = absurd (let e : status.Ok ≡ status.Rejected = is in cc)
 rejected_found told before now blamed words answer.Rejected means is =
     record { names = means.names; shape = means.shape; held = rejected_held told means.names means.means }
 rejected_found told before now blamed words (answer.TooLarge what) means is = absurd (let e : status.Refused ≡ status.Rejected = is in cc)
@@ -67,7 +68,7 @@ rejected_found told before now blamed words (answer.ReadFault name) means is = a
 
 usage_found : (told : Option Held) (before now : ℕ) (blamed : Option (List ℕ)) (words : List (List ℕ)) (found : Answer) → CommandMeans told before now blamed words found → status_of found ≡ status.Usage → IsNoCommand words
 usage_found told before now blamed words answer.Usage means is = means
-usage_found told before now blamed words (answer.Accepted group) means is = absurd (let e : status.Ok ≡ status.Usage = is in cc)
+usage_found told before now blamed words (answer.Accepted schedule) means is = absurd (let e : status.Ok ≡ status.Usage = is in cc)
 usage_found told before now blamed words answer.Rejected means is = absurd (let e : status.Rejected ≡ status.Usage = is in cc)
 usage_found told before now blamed words (answer.TooLarge what) means is = absurd (let e : status.Refused ≡ status.Usage = is in cc)
 usage_found told before now blamed words (answer.Refused what) means is = absurd (let e : status.Refused ≡ status.Usage = is in cc)

@@ -4,3 +4,4 @@ pub mod OneCases
 pub mod FirstUnread
 pub mod Endings
 mod Refusals
+pub mod FreeTests

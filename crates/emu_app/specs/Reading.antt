@@ -14,7 +14,7 @@ use Rattle.emu_machine.specs.Acceptance.{Case}
 use Rattle.schedule_check.specs.Verdict.{plain_case}
 use Rattle.emu_app.specs.declared.command.Command.{Command}
 use Rattle.emu_app.specs.declared.what.What.{What}
-use Rattle.emu_app.specs.declared.what.What.TheVariants.{Design, Cells, Groups, Board, Netlist, Schedule, Map, Opening, Events}
+use Rattle.emu_app.specs.declared.what.What.TheVariants.{Design, Cells, Groups, Board, Netlist, Schedule as ScheduleText, Map, Opening, Events}
 use Rattle.emu_app.specs.declared.plan_texts.OneChip.{OneChip}
 use Rattle.emu_app.specs.declared.design_text.Parsed.{Parsed}
 use Rattle.emu_app.specs.declared.refusal.Refusal.{Refusal}
@@ -70,7 +70,7 @@ pub record ResultsSay (texts : Texts) (results : Results) : Type 0 where
   pub schedule : Schedule
   pub map : StateMap
   pub says_netlist : SaysNetlist (texts Netlist) chip
-  pub says_schedule : SaysSchedule (texts Schedule) schedule
+  pub says_schedule : SaysSchedule (texts ScheduleText) schedule
   pub says_map : SaysMap (texts Map) chip map
   pub is : results ≡ record { net = chip ∷ []; schedule = schedule; map = map }
 
@@ -99,7 +99,7 @@ IsRead top texts Cells = Unit {0}
 IsRead top texts Groups = SaysNoGroups (texts Groups)
 IsRead top texts Board = (chip : OneChip) × SaysBoard (texts Board) chip
 IsRead top texts Netlist = (chip : Chip) × SaysNetlist (texts Netlist) chip
-IsRead top texts Schedule = (schedule : Schedule) × SaysSchedule (texts Schedule) schedule
+IsRead top texts ScheduleText = (schedule : Schedule) × SaysSchedule (texts ScheduleText) schedule
 IsRead top texts Map = (chip : Chip) × (map : StateMap) × SaysNetlist (texts Netlist) chip × SaysMap (texts Map) chip map
 IsRead top texts Opening = Unit {0}
 IsRead top texts Events = Unit {0}

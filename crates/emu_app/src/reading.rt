@@ -83,7 +83,8 @@ pub fn read_results(
     ensures means { AllMean command top.now (texts_of command texts.now) (ResultsSay (texts_of command texts.now)) result }
     ensures plain { IfOk result IsPlainResults }
 {
-    let _before = (design, chip);
+    let _design = design;
+    let _chip = chip;
     let netlist = read_netlist(alloc, text_at(command, texts, What::Netlist))?;
     let schedule = read_schedule(alloc, text_at(command, texts, What::Schedule))?;
     let map = read_map(alloc, text_at(command, texts, What::Map), &netlist)?;

@@ -1,12 +1,3 @@
-pub mod Tests
-pub mod Plain
-pub mod Reach
-pub mod Rules
-pub mod Sound
-pub mod FromRules
-pub mod Histories
-pub mod Together
-pub mod Examples
 pub mod Passing
 pub mod Driven
 pub mod Chips

@@ -22,5 +22,3 @@ mod weights;
 pub use judging::judge;
 pub use verdict::{Rule, Verdict};
 
-#[cfg(test)]
-mod tests;
