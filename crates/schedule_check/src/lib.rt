@@ -1,9 +1,13 @@
 //! The judge of results, which trusts nothing of how they were made.
 //!
-//! So far it judges the plainest results: those of one gate and one register on one chip, with one
-//! frame of one action. Its contract is that it says yes exactly where the rules A1 to A12 hold, and
-//! that a yes means the headline: the machine agrees with the design after every event, for every
-//! opening and every list of events.
+//! `judge` judges plain results of any size for a plain design: one chip of `buf` and `not` gates and
+//! of registers without D, one frame of `input` actions. Its contract is that it says `Accepted` just
+//! where the rules A1 to A12 hold, and else names the first rule that does not hold. Each rule has a
+//! module of its own. The time is linear, and tables have one entry for each net or register.
+//!
+//! `is_accepted` judges the plainest results: those of one gate and one register on one chip, with one
+//! frame of one action. A yes means the headline: the machine agrees with the design after every event,
+//! for every opening and every list of events.
 #![tactic(auto)]
 
 mod actions;
