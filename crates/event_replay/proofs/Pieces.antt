@@ -61,9 +61,11 @@ none_past (x ∷ xs) h = or_from (x == 61) (list_any (λ byte. byte == 61) xs) (
 -- a word is parted at its last `=`
 pub parted : (word : List ℕ) (i : ℕ) → i < length word → get_or word i 0 ≡ 61 → ((k : ℕ) → i + 1 ≤ k → k < length word → get_or word k 0 ≢ 61)
     → (word ≡ take i word ++ 61 ∷ drop (i + 1) word) × (list_any (λ byte. byte == 61) (drop (i + 1) word) ≡ false)
-parted word i inside here after =
-    (sym (ap (λ b. take i word ++ b ∷ drop (i + 1) word) (sym here) ∙ split_around word i inside), none_past (drop (i + 1) word) (λ k below.
-    let there = get_or-drop (i + 1) word k 0 in let differs = after (i + 1 + k) (omega arith) (omega (arith, length-drop (i + 1) word)) in rw there differs))
+parted word i inside here after = (
+  sym (ap (λ b. take i word ++ b ∷ drop (i + 1) word) (sym here) ∙ split_around word i inside),
+  none_past (drop (i + 1) word) (λ k below.
+      let there = get_or-drop (i + 1) word k 0 in let differs = after (i + 1 + k) (omega arith) (omega (arith, length-drop (i + 1) word)) in rw there differs),
+)
 
 -- a blank is not at the front of a line that does not begin with one
 pub after_first : (line : List ℕ) (i : ℕ) → is_blank (get_or line i 0) ≡ true → is_blank (get_or line 0 0) ≡ false → 0 < i

@@ -82,19 +82,19 @@ same_name from place (port ∷ ports) n m one other =
     let test-n = λ (p : Port). bytes_eq n p.name in
     let test-m = λ (p : Port). bytes_eq m p.name in
     elim (cases_Bool (bytes_eq n port.name)) [
-      inl yes-n ↦ elim (cases_Bool (bytes_eq m port.name)) [
-        inl yes-m ↦ (bytes_eq-Decides n port.name).0 yes-n ∙ sym ((bytes_eq-Decides m port.name).0 yes-m)
-      | inr no-m ↦ absurd (let here : Some from ≡ Some place = sym (first_yes test-n from port ports yes-n) ∙ one in
-          let place_is : from ≡ place = cc in
-          let later = position_within test-m (from + 1) place ports (sym (first_no test-m from port ports no-m) ∙ other) in
-          omega (arith, place_is, later.0))
+      | inl yes-n ↦ elim (cases_Bool (bytes_eq m port.name)) [
+        | inl yes-m ↦ (bytes_eq-Decides n port.name).0 yes-n ∙ sym ((bytes_eq-Decides m port.name).0 yes-m)
+        | inr no-m ↦ absurd (let here : Some from ≡ Some place = sym (first_yes test-n from port ports yes-n) ∙ one in
+            let place_is : from ≡ place = cc in
+            let later = position_within test-m (from + 1) place ports (sym (first_no test-m from port ports no-m) ∙ other) in
+            omega (arith, place_is, later.0))
       ]
-    | inr no-n ↦ elim (cases_Bool (bytes_eq m port.name)) [
-        inl yes-m ↦ absurd (let here : Some from ≡ Some place = sym (first_yes test-m from port ports yes-m) ∙ other in
-          let place_is : from ≡ place = cc in
-          let later = position_within test-n (from + 1) place ports (sym (first_no test-n from port ports no-n) ∙ one) in
-          omega (arith, place_is, later.0))
-      | inr no-m ↦ same_name (from + 1) place ports n m (sym (first_no test-n from port ports no-n) ∙ one) (sym (first_no test-m from port ports no-m) ∙ other)
+      | inr no-n ↦ elim (cases_Bool (bytes_eq m port.name)) [
+        | inl yes-m ↦ absurd (let here : Some from ≡ Some place = sym (first_yes test-m from port ports yes-m) ∙ other in
+            let place_is : from ≡ place = cc in
+            let later = position_within test-n (from + 1) place ports (sym (first_no test-n from port ports no-n) ∙ one) in
+            omega (arith, place_is, later.0))
+        | inr no-m ↦ same_name (from + 1) place ports n m (sym (first_no test-n from port ports no-n) ∙ one) (sym (first_no test-m from port ports no-m) ∙ other)
       ]
     ]
 
@@ -125,12 +125,12 @@ once_of ports (e ∷ es) (s ∷ ss) sorted set p =
     let count = sum_by-cons (λ (s : Setting). cond {A = ℕ} (s.port == p) 1 0) s ss in
     let rest = once_of ports es ss sorted.1 set.1 p in
     elim (cases_eq s.port p) [
-      inl same ↦
-        (let one : cond {A = ℕ} (s.port == p) 1 0 ≡ 1 = cond-true _ 1 0 (eq-eqb s.port p same) in
-        omega (arith, count, one, none_later ports p e es ss (set.0.2.named ∙ ap Some same) sorted.0 set.1))
-    | inr other ↦
-        (let none : cond {A = ℕ} (s.port == p) 1 0 ≡ 0 = cond-false _ 1 0 (ne_eqb s.port p other) in
-        omega (arith, count, none, rest))
+      | inl same ↦
+          (let one : cond {A = ℕ} (s.port == p) 1 0 ≡ 1 = cond-true _ 1 0 (eq-eqb s.port p same) in
+          omega (arith, count, one, none_later ports p e es ss (set.0.2.named ∙ ap Some same) sorted.0 set.1))
+      | inr other ↦
+          (let none : cond {A = ℕ} (s.port == p) 1 0 ≡ 0 = cond-false _ 1 0 (ne_eqb s.port p other) in
+          omega (arith, count, none, rest))
     ]
 
 of_ports : (ports : List Port) (es : List Entry) (settings : List Setting) → AllZip (MemberSets ports) (map pair es) settings → AllByRecursion (IsOfPort ports) settings

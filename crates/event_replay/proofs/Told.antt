@@ -127,29 +127,30 @@ module _ (ports : List Port) (all rest : List (List ℕ)) (word : List ℕ) (mar
     split = u.split ∙ sym (append_assoc u.done (word ∷ []) rest);
     set = zip_push (WordSets ports) u.done u.settings word s u.set here;
     once = λ port. elim (cases_eq s.port port) [
-      inl same ↦ (let one = counted port s same in let none = u.unmarked s.port differs in let other : set_count port u.settings ≡ 0 = subst (λ p. set_count p u.settings ≡ 0) same none in omega (arith, count_push port u.settings s []))
-    | inr other ↦ (let none = uncounted port s other in let before = u.once port in omega (arith, count_push port u.settings s []))
+      | inl same ↦ (let one = counted port s same in let none = u.unmarked s.port differs in let other : set_count port u.settings ≡ 0 = subst (λ p. set_count p u.settings ≡ 0) same none in omega (arith, count_push port u.settings s []))
+      | inr other ↦ (let none = uncounted port s other in let before = u.once port in omega (arith, count_push port u.settings s []))
     ];
     bits = added ∙ ap (λ bits. bits ++ shown_bits s.nets s.number) u.bits ∙ sym (bits_push u.settings s);
     marked = λ port mark. elim (cases_eq s.port port) [
-      inl same ↦ (let one = counted port s same in omega (arith, count_push port u.settings s []))
-    | inr other ↦ (let before = u.marked port (sym (kept port other) ∙ mark) in omega (arith, count_push port u.settings s []))
+      | inl same ↦ (let one = counted port s same in omega (arith, count_push port u.settings s []))
+      | inr other ↦ (let before = u.marked port (sym (kept port other) ∙ mark) in omega (arith, count_push port u.settings s []))
     ];
     unmarked = λ port none. elim (cases_eq s.port port) [
-      inl same ↦ absurd (none (ap (λ p. get_or marks-2 p 0) (sym same) ∙ own))
-    | inr other ↦ (let zero_is = uncounted port s other in let before = u.unmarked port (λ mark. none (kept port other ∙ mark)) in omega (arith, count_push port u.settings s []))
+      | inl same ↦ absurd (none (ap (λ p. get_or marks-2 p 0) (sym same) ∙ own))
+      | inr other ↦ (let zero_is = uncounted port s other in let before = u.unmarked port (λ mark. none (kept port other ∙ mark)) in omega (arith, count_push port u.settings s []))
     ];
     fresh = record {
       size = ap length written ∙ length-set marks s.port line ∙ u.fresh.size;
       earlier = λ port. elim (cases_eq s.port port) [
-        inl same ↦ (let here-2 : get_or marks-2 port 0 ≡ line = ap (λ p. get_or marks-2 p 0) (sym same) ∙ own in omega arith)
-      | inr other ↦ (let there = kept port other in let before = u.fresh.earlier port in omega arith)
+        | inl same ↦ (let here-2 : get_or marks-2 port 0 ≡ line = ap (λ p. get_or marks-2 p 0) (sym same) ∙ own in omega arith)
+        | inr other ↦ (let there = kept port other in let before = u.fresh.earlier port in omega arith)
       ];
     };
   }
     where
       own : get_or marks-2 s.port 0 ≡ line
       own = ap (λ ms. get_or ms s.port 0) written ∙ get_or-set_same marks s.port line 0 inside
+
       kept : (port : ℕ) → (s.port ≡ port → ⊥) → get_or marks-2 port 0 ≡ get_or marks port 0
       kept port other = ap (λ ms. get_or ms port 0) written ∙ get_or-set_other marks s.port port line 0 (λ e. other (sym e))
 
