@@ -1,5 +1,5 @@
 -- Values that settings of different ports give are values of input bits, each given once.
-use Rattle.std.proofs.Common.{◌≡◌, ◌≢◌, ℕ, zero, suc, ◌+◌, ◌*◌, ◌<◌, ◌≤◌, ◌==◌, ltb, Bool, true, false, cond, if◌then◌else◌, Option, Some, None, option_map, slice_get, List, [], ◌∷◌, ◌++◌, map, get_or, length, flat_map, count_by, sum_by, Contains, inl, inr, refl, sym, ap, ◌∙◌, subst, arith, rules}
+use Rattle.std.proofs.Common.{◌≡◌, ℕ, zero, suc, ◌+◌, ◌*◌, ◌<◌, ◌≤◌, ◌==◌, ltb, Bool, true, cond, Some, option_map, slice_get, List, [], ◌∷◌, map, get_or, count_by, sum_by, Contains, inl, inr, refl, sym, ap, ◌∙◌, arith}
 use Rattle.std.specs.List.{enumerate_from, list_any, AllByRecursion}
 use Rattle.std.proofs.Math.Nat.{suc-mul, mul-le-mul_right}
 use Rattle.std.proofs.lemmas.Bool.{cases_lt, cases_Bool, eq-eqb, ne_eqb, cond-true, cond-false, lt-ltb, or_left, or_right}
@@ -12,7 +12,7 @@ use Rattle.design_core.specs.declared.parts.Port.{Port}
 use Rattle.design_core.specs.declared.values.PortBit.{PortBit}
 use Rattle.design_core.specs.Design.{IsDesign, driver, driver_count, includes, is_net, net_count, port_bits}
 use Rattle.design_core.specs.Operation.{bit_of}
-use Rattle.event_replay.specs.Settings.{Setting, IsOfPort, AreSet, AreInputBits, EachOnce, bits_set}
+use Rattle.event_replay.specs.Settings.{Setting, IsOfPort, AreSet, AreInputBits, bits_set}
 use Rattle.event_replay.specs.Values.{shown_bits}
 
 -- how often a net is given a value

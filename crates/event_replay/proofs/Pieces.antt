@@ -1,11 +1,11 @@
 -- How lines and words are taken off a text one by one.
-use Rattle.std.proofs.Common.{◌≡◌, ◌≢◌, ℕ, zero, suc, ◌+◌, ◌-◌, ◌<◌, ◌≤◌, ◌==◌, ltb, Bool, true, false, not, cond, List, [], ◌∷◌, ◌++◌, map, filter, reverse, take, drop, get_or, length, All, refl, sym, ap, ◌∙◌, subst, arith, rules, take-append-drop, length-drop}
+use Rattle.std.proofs.Common.{◌≡◌, ◌≢◌, ℕ, zero, suc, ◌+◌, ◌<◌, ◌≤◌, ◌==◌, ltb, Bool, true, false, List, [], ◌∷◌, ◌++◌, map, filter, take, drop, get_or, length, All, refl, sym, ap, ◌∙◌, arith, take-append-drop, length-drop}
 use Rattle.std.specs.List.{list_any, slice_split}
-use Rattle.std.proofs.lemmas.Bool.{ne_eqb, eq-eqb, eqb-false, true≢false, cond-true, cond-false, and_from, or_from, lt-ltb}
-use Rattle.std.proofs.lemmas.List.{reverse-append, length-append, take-append-le, take_all, length-take-le, get_or-take, get_or-drop, drop_more, drop_all}
+use Rattle.std.proofs.lemmas.Bool.{ne_eqb, eq-eqb, true≢false, cond-true, or_from, lt-ltb}
+use Rattle.std.proofs.lemmas.List.{length-take-le, get_or-take, get_or-drop, drop_more, drop_all}
 use Rattle.std.proofs.lemmas.List.Elements.{All-from_get_or}
 use Rattle.std.proofs.lemmas.List.Splits.{slice_split_at, slice_split_none, slice_split-cons_yes}
-use Rattle.event_replay.specs.Lines.{is_newline, is_return, is_blank, without_returns, lines, words}
+use Rattle.event_replay.specs.Lines.{is_newline, is_blank, without_returns, lines, words}
 
 -- a list is what stands before a place, what stands there, and what stands after it
 split_around : (xs : List ℕ) (i : ℕ) → i < length xs → take i xs ++ get_or xs i 0 ∷ drop (i + 1) xs ≡ xs

@@ -1,7 +1,7 @@
 -- How the words of a line set ports one by one, and how the lines of a text tell events one by one.
-use Rattle.std.proofs.Common.{◌≡◌, ◌≢◌, ◌↔◌, ℕ, zero, suc, ◌+◌, ◌<◌, ◌≤◌, ◌==◌, Bool, true, false, not, cond, IsTrue, Option, Some, None, List, [], ◌∷◌, ◌++◌, map, filter, get_or, set, length, count_by, All, Contains, Result, Ok, Err, IfOk, MatchOption, codes, inl, inr, refl, sym, ap, ◌∙◌, subst, arith, rules, append_assoc, append-nil, length-set, get_or-set_same, get_or-set_other}
+use Rattle.std.proofs.Common.{◌≡◌, ℕ, ◌+◌, ◌<◌, ◌≤◌, ◌==◌, true, false, not, cond, IsTrue, Option, Some, None, List, [], ◌∷◌, ◌++◌, filter, get_or, set, length, count_by, All, Contains, Result, Ok, Err, IfOk, MatchOption, codes, inl, inr, refl, sym, ap, ◌∙◌, subst, arith, append_assoc, append-nil, length-set, get_or-set_same, get_or-set_other}
 use Rattle.std.specs.List.{AllZip, AllByRecursion, list_any, list_all}
-use Rattle.std.proofs.lemmas.Bool.{cases_eq, eq-eqb, ne_eqb, cond-true, cond-false, true≢false, or_cases, or_right, or_from, and_parts}
+use Rattle.std.proofs.lemmas.Bool.{cases_eq, eq-eqb, ne_eqb, cond-true, cond-false, true≢false, or_right, or_from, and_parts}
 use Rattle.std.proofs.lemmas.List.Elements.{All-nil, All-cons, All-contains}
 use Rattle.std.proofs.lemmas.List.Sums.{sum_by-cons, sum_by-append}
 use Rattle.design_core.specs.declared.parts.Parts.{Parts}
@@ -14,7 +14,7 @@ use Rattle.event_replay.specs.Faults.{Answers}
 use Rattle.event_replay.specs.Events.{AreFresh, SaysEvents, TellsEvent, WordSets, WordsGive, TextsTellEventsApart}
 use Rattle.event_replay.specs.Lines.{words, event_lines, is_passed_over, is_plain, lines}
 use Rattle.event_replay.specs.Settings.{Setting, Sets, IsOfPort, AreSet, AreInputBits, EachOnce, bits_set}
-use Rattle.event_replay.specs.Values.{shown_bits, hex_number, is_hex}
+use Rattle.event_replay.specs.Values.{shown_bits, is_hex}
 use Rattle.event_replay.proofs.InputBits.{input_bits}
 use Rattle.event_replay.proofs.OneOpening.{one_setting}
 use Rattle.event_replay.proofs.Taken.{bits_push}
