@@ -84,9 +84,6 @@ pub not_among : (names : List (List ℕ)) (text : List ℕ) (k : ℕ) → place_
 not_among names text k none here =
     true≢false (sym ((bytes_eq-Decides text text).1 refl) ∙ not_any (bytes_eq text) names k text (list_any-position (bytes_eq text) names none) here)
 
-pub no_ports : Indexes [] [] []
-no_ports = record { same = refl; first = λ k place name here there. absurd (cc); none = λ name absent. refl }
-
 module _ (ports : List Port) (names : List (List ℕ)) (firsts : List ℕ) (port : Port) (so_far : Indexes ports names firsts) where
   abbrev named : List ℕ → Port → Bool
   named name p = bytes_eq name p.name

@@ -47,9 +47,6 @@ pub record Taking (ports : List Port) (all rest : List Entry) (values : List Por
   pub set : AllZip (MemberSets ports) (map pair done) settings
   pub bits : values ≡ bits_set settings
 
-pub none_taken : (ports : List Port) (all : List Entry) → Taking ports all all []
-none_taken ports all = record { done = []; settings = []; split = refl; set = tt; bits = refl }
-
 -- the next member sets a port
 pub one_taken : (ports : List Port) (all rest : List Entry) (e : Entry) (values : List PortBit) (s : Setting) → Taking ports all (e ∷ rest) values → MemberSets ports (pair e) s → Taking ports all rest (values ++ shown_bits s.nets s.number)
 one_taken ports all rest e values s t here = record {
@@ -148,9 +145,6 @@ are_set ports all values t sorted =
       once = once_of ports t.done t.settings (subst (λ es. IsStrictlySortedBy string_cmp (keys_of es)) done sorted) t.set;
       bits = t.bits;
     }
-
-pub none_set : (ports : List Port) → AreSet ports []
-none_set ports = record { settings = []; of_ports = tt; once = λ p. omega arith; bits = refl }
 
 -- what an option is a map of
 pub mapped_some : {A B : Type 0} (f : A → B) (o : Option A) (y : B) → option_map f o ≡ Some y → (x : A) × (o ≡ Some x) × (f x ≡ y)
