@@ -1,5 +1,5 @@
 -- An answer about one thing that a text says is an answer about another.
-use Rattle.std.proofs.Common.{◌≡◌, Result, Ok, Err, IfOk}
+use Rattle.std.proofs.Common.{Result, Ok, Err, IfOk}
 use Rattle.event_replay.specs.Faults.{Answers}
 use Rattle.event_replay.specs.declared.fault.TextFault.{TextFault}
 use Rattle.event_replay.specs.declared.fault.TextFault.TheVariants.{NotYet, NoMemory}

@@ -1,8 +1,8 @@
 -- How ports are taken into an index by their names.
-use Rattle.std.proofs.Common.{◌≡◌, ◌≢◌, ◌⊎◌, ℕ, zero, suc, ◌+◌, ◌<◌, ◌≤◌, ◌==◌, Bool, true, false, cond, if◌then◌else◌, Option, Some, None, is_some, option_map, slice_get, List, [], ◌∷◌, ◌++◌, take, get_or, length, inl, inr, refl, sym, ap, ◌∙◌, subst, arith, rules, length-append}
+use Rattle.std.proofs.Common.{◌≡◌, ◌⊎◌, ℕ, zero, suc, ◌+◌, ◌<◌, ◌≤◌, Bool, true, false, if◌then◌else◌, Option, Some, None, is_some, option_map, slice_get, List, [], ◌∷◌, ◌++◌, take, get_or, length, inl, inr, refl, sym, ap, ◌∙◌, subst, arith, length-append}
 use Rattle.std.specs.List.{position_from, list_any}
 use Rattle.std.specs.Str.{bytes_eq}
-use Rattle.std.proofs.lemmas.Bool.{cases_lt, cases_Bool, cond-true, cond-false, false_from_ne_true, true≢false, or_parts}
+use Rattle.std.proofs.lemmas.Bool.{cases_Bool, cond-true, cond-false, false_from_ne_true, true≢false, or_parts}
 use Rattle.std.proofs.lemmas.List.{take_more, length-take-le}
 use Rattle.std.proofs.lemmas.Option.{slice_get_within, slice_get-get_or}
 use Rattle.std.proofs.lemmas.Slice.Eq.{bytes_eq-Decides}
@@ -26,8 +26,8 @@ stays : {X : Type 0} (test : X → Bool) (x : X) (from place : ℕ) (xs : List X
 stays test x from place [] found = absurd (cc)
 stays test x from place (y ∷ ys) found =
     elim (cases_Bool (test y)) [
-      inl e ↦ first_yes test from y (ys ++ x ∷ []) e ∙ sym (first_yes test from y ys e) ∙ found
-    | inr e ↦ first_no test from y (ys ++ x ∷ []) e ∙ stays test x (from + 1) place ys (sym (first_no test from y ys e) ∙ found)
+      | inl e ↦ first_yes test from y (ys ++ x ∷ []) e ∙ sym (first_yes test from y ys e) ∙ found
+      | inr e ↦ first_no test from y (ys ++ x ∷ []) e ∙ stays test x (from + 1) place ys (sym (first_no test from y ys e) ∙ found)
     ]
 
 -- and where there was none, the last element decides
@@ -35,20 +35,20 @@ comes : {X : Type 0} (test : X → Bool) (x : X) (from : ℕ) (xs : List X) → 
 comes test x from [] none = (let same : from ≡ from + 0 = omega arith in ap (λ n. if test x then Some n else None) same)
 comes test x from (y ∷ ys) none =
     elim (cases_Bool (test y)) [
-      inl e ↦ (let s : Some from ≡ None = sym (first_yes test from y ys e) ∙ none in absurd (cc))
-    | inr e ↦
-        (let places : from + 1 + length ys ≡ from + suc (length ys) = omega arith in
-        first_no test from y (ys ++ x ∷ []) e
-        ∙ comes test x (from + 1) ys (sym (first_no test from y ys e) ∙ none)
-        ∙ ap (λ n. if test x then Some n else None) places)
+      | inl e ↦ (let s : Some from ≡ None = sym (first_yes test from y ys e) ∙ none in absurd (cc))
+      | inr e ↦
+          (let places : from + 1 + length ys ≡ from + suc (length ys) = omega arith in
+          first_no test from y (ys ++ x ∷ []) e
+          ∙ comes test x (from + 1) ys (sym (first_no test from y ys e) ∙ none)
+          ∙ ap (λ n. if test x then Some n else None) places)
     ]
 
 pub position_within : {X : Type 0} (test : X → Bool) (from place : ℕ) (xs : List X) → position_from test from xs ≡ Some place → (from ≤ place) × (place < from + length xs)
 position_within test from place [] found = absurd (cc)
 position_within test from place (y ∷ ys) found =
     elim (cases_Bool (test y)) [
-      inl e ↦ (let same : Some from ≡ Some place = sym (first_yes test from y ys e) ∙ found in let equal : from ≡ place = cc in (omega arith, omega arith))
-    | inr e ↦ (let rest = position_within test (from + 1) place ys (sym (first_no test from y ys e) ∙ found) in (omega (arith, rest.0), omega (arith, rest.1)))
+      | inl e ↦ (let same : Some from ≡ Some place = sym (first_yes test from y ys e) ∙ found in let equal : from ≡ place = cc in (omega arith, omega arith))
+      | inr e ↦ (let rest = position_within test (from + 1) place ys (sym (first_no test from y ys e) ∙ found) in (omega (arith, rest.0), omega (arith, rest.1)))
     ]
 
 pub named_within : (ports : List Port) (name : List ℕ) (place : ℕ) → port_named ports name ≡ Some place → place < length ports
@@ -61,8 +61,8 @@ at_push [] x y (suc k) here = absurd (cc)
 at_push (z ∷ zs) x y zero here = inl here
 at_push (z ∷ zs) x y (suc k) here =
     elim (at_push zs x y k here) [
-      inl there ↦ inl there
-    | inr last ↦ inr (ap suc last.0, last.1)
+      | inl there ↦ inl there
+      | inr last ↦ inr (ap suc last.0, last.1)
     ]
 
 in_front : {X : Type 0} (xs : List X) (x y : X) (k : ℕ) → slice_get xs k ≡ Some y → slice_get (xs ++ x ∷ []) k ≡ Some y
@@ -83,9 +83,6 @@ not_any test (y ∷ ys) (suc k) x none here = not_any test ys k x (or_parts (tes
 pub not_among : (names : List (List ℕ)) (text : List ℕ) (k : ℕ) → place_among names text ≡ None → slice_get names k ≡ Some text → ⊥
 not_among names text k none here =
     true≢false (sym ((bytes_eq-Decides text text).1 refl) ∙ not_any (bytes_eq text) names k text (list_any-position (bytes_eq text) names none) here)
-
-pub no_ports : Indexes [] [] []
-no_ports = record { same = refl; first = λ k place name here there. absurd (cc); none = λ name absent. refl }
 
 module _ (ports : List Port) (names : List (List ℕ)) (firsts : List ℕ) (port : Port) (so_far : Indexes ports names firsts) where
   abbrev named : List ℕ → Port → Bool
@@ -117,6 +114,7 @@ module _ (ports : List Port) (names : List (List ℕ)) (firsts : List ℕ) (port
     where
       unnamed : (k : ℕ) → slice_get names k ≡ Some port.name → ⊥
       unnamed k here = not_among names port.name k new here
+
       first : (j place : ℕ) (name : List ℕ) → (slice_get names j ≡ Some name) ⊎ ((j ≡ length names) × (port.name ≡ name)) → (slice_get firsts j ≡ Some place) ⊎ ((j ≡ length firsts) × (length ports ≡ place))
           → port_named (ports ++ port ∷ []) name ≡ Some place
       first j place name (inl here) (inl there) = still place name (so_far.first j place name here there)
@@ -143,8 +141,10 @@ taken_in ports names names-2 firsts firsts-2 place number known port text inside
   where
     named : text ≡ port.name
     named = text_is ∙ ap (λ p. p.name) (sym here)
+
     longer : take place ports ++ port ∷ [] ≡ take (place + 1) ports
     longer = ap (λ p. take place ports ++ p ∷ []) here ∙ sym (take_more ports place port inside)
+
     go : (o : Option ℕ) → place_among names text ≡ o → Indexes (take (place + 1) ports) names-2 firsts-2
     go None none =
         let added : names-2 ≡ names ++ text ∷ [] = more ∙ ap (λ o. if is_some o then names else names ++ text ∷ []) none in

@@ -1,5 +1,5 @@
 -- Values that settings of different ports give are values of input bits, each given once.
-use Rattle.std.proofs.Common.{◌≡◌, ◌≢◌, ℕ, zero, suc, ◌+◌, ◌*◌, ◌<◌, ◌≤◌, ◌==◌, ltb, Bool, true, false, cond, if◌then◌else◌, Option, Some, None, option_map, slice_get, List, [], ◌∷◌, ◌++◌, map, get_or, length, flat_map, count_by, sum_by, Contains, inl, inr, refl, sym, ap, ◌∙◌, subst, arith, rules}
+use Rattle.std.proofs.Common.{◌≡◌, ℕ, zero, suc, ◌+◌, ◌*◌, ◌<◌, ◌≤◌, ◌==◌, ltb, Bool, true, cond, Some, option_map, slice_get, List, [], ◌∷◌, map, get_or, count_by, sum_by, Contains, inl, inr, refl, sym, ap, ◌∙◌, arith}
 use Rattle.std.specs.List.{enumerate_from, list_any, AllByRecursion}
 use Rattle.std.proofs.Math.Nat.{suc-mul, mul-le-mul_right}
 use Rattle.std.proofs.lemmas.Bool.{cases_lt, cases_Bool, eq-eqb, ne_eqb, cond-true, cond-false, lt-ltb, or_left, or_right}
@@ -12,7 +12,7 @@ use Rattle.design_core.specs.declared.parts.Port.{Port}
 use Rattle.design_core.specs.declared.values.PortBit.{PortBit}
 use Rattle.design_core.specs.Design.{IsDesign, driver, driver_count, includes, is_net, net_count, port_bits}
 use Rattle.design_core.specs.Operation.{bit_of}
-use Rattle.event_replay.specs.Settings.{Setting, IsOfPort, AreSet, AreInputBits, EachOnce, bits_set}
+use Rattle.event_replay.specs.Settings.{Setting, IsOfPort, AreSet, AreInputBits, bits_set}
 use Rattle.event_replay.specs.Values.{shown_bits}
 
 -- how often a net is given a value
@@ -128,16 +128,16 @@ given_few n ports values set =
 one_driver : (p : Parts) (n : ℕ) → IsDesign p → driver_count p n ≤ 1
 one_driver p n design =
     elim (cases_lt n (net_count p)) [
-      inl there ↦ design.one_driver n there
-    | inr beyond ↦ (elim (cases_lt 0 (driver_count p n)) [ inl some ↦ absurd (let there = design.in_range n some in omega arith) | inr none ↦ omega arith ])
+      | inl there ↦ design.one_driver n there
+      | inr beyond ↦ (elim (cases_lt 0 (driver_count p n)) [ inl some ↦ absurd (let there = design.in_range n some in omega arith) | inr none ↦ omega arith ])
     ]
 
 any_of_some : {X : Type 0} (test : X → Bool) (xs : List X) → 0 < count_by test xs → list_any test xs ≡ true
 any_of_some test [] some = absurd (omega arith)
 any_of_some test (x ∷ xs) some =
     elim (cases_Bool (test x)) [
-      inl e ↦ or_left (test x) (list_any test xs) e
-    | inr e ↦ or_right (test x) (list_any test xs) (any_of_some test xs (let count = sum_by-cons (λ y. cond {A = ℕ} (test y) 1 0) x xs in let none : cond {A = ℕ} (test x) 1 0 ≡ 0 = cond-false (test x) 1 0 e in omega arith))
+      | inl e ↦ or_left (test x) (list_any test xs) e
+      | inr e ↦ or_right (test x) (list_any test xs) (any_of_some test xs (let count = sum_by-cons (λ y. cond {A = ℕ} (test y) 1 0) x xs in let none : cond {A = ℕ} (test x) 1 0 ≡ 0 = cond-false (test x) 1 0 e in omega arith))
     ]
 
 count_contained : (values : List PortBit) (b : PortBit) → Contains values b → 0 < given_count b.net.place values
@@ -149,11 +149,11 @@ count_contained values b here =
 input_driver : (p : Parts) (n : ℕ) → IsDesign p → 0 < count_by (is_net n) (port_bits p.inputs) → driver p n ≡ Input
 input_driver p n design some =
     elim (cases_lt n 2) [
-      inl low ↦ absurd (let one = one_driver p n design in let constant : cond {A = ℕ} (ltb n 2) 1 0 ≡ 1 = cond-true (ltb n 2) 1 0 (lt-ltb n 2 low) in omega arith)
-    | inr high ↦
-        cond-false (n == 0) _ _ (ne_eqb n 0 (λ e. omega arith))
-        ∙ cond-false (n == 1) _ _ (ne_eqb n 1 (λ e. omega arith))
-        ∙ cond-true (includes (port_bits p.inputs) n) _ _ (any_of_some (is_net n) (port_bits p.inputs) some)
+      | inl low ↦ absurd (let one = one_driver p n design in let constant : cond {A = ℕ} (ltb n 2) 1 0 ≡ 1 = cond-true (ltb n 2) 1 0 (lt-ltb n 2 low) in omega arith)
+      | inr high ↦
+          cond-false (n == 0) _ _ (ne_eqb n 0 (λ e. omega arith))
+          ∙ cond-false (n == 1) _ _ (ne_eqb n 1 (λ e. omega arith))
+          ∙ cond-true (includes (port_bits p.inputs) n) _ _ (any_of_some (is_net n) (port_bits p.inputs) some)
     ]
 
 pub input_bits : (p : Parts) (values : List PortBit) → IsDesign p → AreSet p.inputs values → AreInputBits p values

@@ -1,11 +1,10 @@
 -- A text gives at most one opening.
 use Rattle.std.proofs.Common.{◌≡◌, ℕ, List, Option, Some, None, option_map, slice_get, refl, sym, ap, ◌∙◌, subst}
-use Rattle.serde_json.specs.Data.{Data, string, object, Members}
+use Rattle.serde_json.specs.Data.{Data, Members}
 use Rattle.serde_json.specs.Find.{as_str}
-use Rattle.id_arena.specs.declared.keys.NetId.{NetId}
 use Rattle.design_core.specs.declared.parts.Port.{Port}
 use Rattle.design_core.specs.declared.values.PortBit.{PortBit}
-use Rattle.event_replay.specs.Openings.{InputsGive, ObjectGives, MembersGive, MemberSets, IsOpening, TextsTellOpeningsApart, listed}
+use Rattle.event_replay.specs.Openings.{InputsGive, MembersGive, MemberSets, TextsTellOpeningsApart, listed}
 use Rattle.event_replay.specs.Settings.{Setting, Sets, bits_set}
 use Rattle.event_replay.proofs.Taken.{said_opening, opening_to, members_same}
 use Rattle.event_replay.proofs.Zips.{zip_unique}

@@ -1,15 +1,14 @@
 -- The numbers that hexadecimal digits write: whether they fit a width, and their bits.
-use Rattle.std.proofs.Common.{◌≡◌, ◌≢◌, ◌⊎◌, ◌↔◌, ℕ, zero, suc, ◌+◌, ◌-◌, ◌*◌, ◌/◌, ◌%◌, ◌^◌, ◌<◌, ◌≤◌, ◌==◌, Bool, true, false, cond, if◌then◌else◌, IsTrue, Option, Some, None, List, [], ◌∷◌, ◌++◌, drop, get_or, length, refl, sym, ap, ◌∙◌, subst, inl, inr, length-drop, arith, rules}
+use Rattle.std.proofs.Common.{◌≡◌, ◌↔◌, ℕ, zero, suc, ◌+◌, ◌-◌, ◌*◌, ◌/◌, ◌%◌, ◌^◌, ◌<◌, ◌≤◌, Bool, true, false, if◌then◌else◌, IsTrue, Option, Some, None, List, [], ◌∷◌, drop, get_or, length, refl, sym, ap, ◌∙◌, subst, inl, inr, length-drop, arith}
 use Rattle.std.specs.Char.{digit_value}
 use Rattle.std.specs.Int.{bit_at}
 use Rattle.std.specs.List.{list_all}
 use Rattle.std.proofs.Math.Nat.{pow-succ', pow-le-pow_right, mul-le-mul_right, mul-lt-mul_of_pos_right, lt_of_mul-lt-mul_right, suc-mul}
-use Rattle.std.proofs.lemmas.Bool.{and_parts, and_from, ltb-true, lt-ltb, cases_lt, true≢false}
+use Rattle.std.proofs.lemmas.Bool.{and_parts, and_from, ltb-true, cases_lt}
 use Rattle.std.proofs.lemmas.Nat.{pow-add, pow_pos}
 use Rattle.std.proofs.lemmas.List.{drop_more, drop_all}
-use Rattle.std.proofs.lemmas.Nat.Bits.{bit_at_cat_low, bit_at_cat_high, bit_at_above, bit_at-zero}
-use Rattle.design_core.specs.Operation.{bit_of}
-use Rattle.event_replay.specs.Values.{IsValue, hex_number, is_hex}
+use Rattle.std.proofs.lemmas.Nat.Bits.{bit_at_cat_low, bit_at_cat_high, bit_at_above}
+use Rattle.event_replay.specs.Values.{hex_number, is_hex}
 
 pub sixteen : (k : ℕ) → 16 ^ k ≡ 2 ^ (4 * k)
 sixteen zero = refl
@@ -80,16 +79,22 @@ fits_step width d ds = (there, back)
         let rest = hex_number_lt ds h.1.0 in
         let step = next_digit (digit_value d) (16 ^ length ds) (hex_number ds) rest in
         elim (cases_lt (width / 4) (length ds)) [
-          inl far ↦ (hex, (elim (cases_lt 0 (digit_value d)) [
-            inl some ↦ absurd (too_high (digit_value d) (length ds) width some far h.0.1)
-          | inr none ↦ (let zeroth : digit_value d ≡ 0 = omega arith in let nothing : digit_value d * 16 ^ length ds ≡ 0 * 16 ^ length ds = ap (λ v. v * 16 ^ length ds) zeroth in let less = h.1.1 in omega arith)
-          ]))
-        | inr near ↦ (hex, (let room = with_room (digit_value d) (length ds) width near in
-            let more = with_room (suc (digit_value d)) (length ds) width near in
-            elim (cases_lt (suc (digit_value d)) (2 ^ (width - 4 * length ds))) [
-              inl less ↦ (let most = more.0 less in omega arith)
-            | inr last ↦ (let first = room.1 h.0.1 in let all : suc (digit_value d) ≡ 2 ^ (width - 4 * length ds) = omega arith in last_digit all near rest)
-            ]))
+          | inl far ↦ (
+            hex,
+            (elim (cases_lt 0 (digit_value d)) [
+              | inl some ↦ absurd (too_high (digit_value d) (length ds) width some far h.0.1)
+              | inr none ↦ (let zeroth : digit_value d ≡ 0 = omega arith in let nothing : digit_value d * 16 ^ length ds ≡ 0 * 16 ^ length ds = ap (λ v. v * 16 ^ length ds) zeroth in let less = h.1.1 in omega arith)
+            ]),
+          )
+          | inr near ↦ (
+            hex,
+            (let room = with_room (digit_value d) (length ds) width near in
+                let more = with_room (suc (digit_value d)) (length ds) width near in
+                elim (cases_lt (suc (digit_value d)) (2 ^ (width - 4 * length ds))) [
+                  | inl less ↦ (let most = more.0 less in omega arith)
+                  | inr last ↦ (let first = room.1 h.0.1 in let all : suc (digit_value d) ≡ 2 ^ (width - 4 * length ds) = omega arith in last_digit all near rest)
+                ]),
+          )
         ]
       where
         last_digit : suc (digit_value d) ≡ 2 ^ (width - 4 * length ds) → length ds ≤ width / 4 → hex_number ds < 16 ^ length ds → hex_number (d ∷ ds) < 2 ^ width
@@ -98,6 +103,7 @@ fits_step width d ds = (there, back)
             let split : 2 ^ width ≡ 2 ^ (width - 4 * length ds) * 16 ^ length ds =
             ap (λ n. 2 ^ n) (sym room) ∙ pow-add 2 (width - 4 * length ds) (4 * length ds) ∙ ap (λ n. 2 ^ (width - 4 * length ds) * n) (sym (sixteen (length ds))) in
             subst (λ n. hex_number (d ∷ ds) < n) (sym (split ∙ ap (λ n. n * 16 ^ length ds) (sym all))) (next_digit (digit_value d) (16 ^ length ds) (hex_number ds) rest)
+
     back : Fits width (d ∷ ds) → (IsTrue (is_hex d) × (digit_value d * 16 ^ length ds < 2 ^ width)) × Fits width ds
     back h = ((all_first d ds h.0, omega (arith, h.1)), (all_rest d ds h.0, omega (arith, h.1)))
 
@@ -108,17 +114,17 @@ bit_found (d ∷ ds) place h inside =
     let power = ap (λ m. bit_at (digit_value d * m + hex_number ds) place) (sixteen (length ds)) in
     let rest : hex_number ds < 2 ^ (4 * length ds) = subst (λ m. hex_number ds < m) (sixteen (length ds)) (hex_number_lt ds (all_rest d ds h)) in
     elim (cases_lt (place / 4) (length ds)) [
-      inl low ↦ (let there : suc (length ds) - 1 - place / 4 ≡ suc (length ds - 1 - place / 4) = omega arith in
-        power
-        ∙ bit_at_cat_low (digit_value d) (4 * length ds) (hex_number ds) place (omega arith)
-        ∙ bit_found ds place (all_rest d ds h) low
-        ∙ ap (λ i. bit_at (digit_value (get_or (d ∷ ds) i 0)) (place % 4)) (sym there))
-    | inr high ↦ (let there : suc (length ds) - 1 - place / 4 ≡ 0 = omega arith in
-        let left : place - 4 * length ds ≡ place % 4 = omega arith in
-        power
-        ∙ bit_at_cat_high (digit_value d) (4 * length ds) (hex_number ds) place rest (omega arith)
-        ∙ ap (bit_at (digit_value d)) left
-        ∙ ap (λ i. bit_at (digit_value (get_or (d ∷ ds) i 0)) (place % 4)) (sym there))
+      | inl low ↦ (let there : suc (length ds) - 1 - place / 4 ≡ suc (length ds - 1 - place / 4) = omega arith in
+          power
+          ∙ bit_at_cat_low (digit_value d) (4 * length ds) (hex_number ds) place (omega arith)
+          ∙ bit_found ds place (all_rest d ds h) low
+          ∙ ap (λ i. bit_at (digit_value (get_or (d ∷ ds) i 0)) (place % 4)) (sym there))
+      | inr high ↦ (let there : suc (length ds) - 1 - place / 4 ≡ 0 = omega arith in
+          let left : place - 4 * length ds ≡ place % 4 = omega arith in
+          power
+          ∙ bit_at_cat_high (digit_value d) (4 * length ds) (hex_number ds) place rest (omega arith)
+          ∙ ap (bit_at (digit_value d)) left
+          ∙ ap (λ i. bit_at (digit_value (get_or (d ∷ ds) i 0)) (place % 4)) (sym there))
     ]
 
 pub bit_beyond : (ds : List ℕ) (place : ℕ) → IsTrue (list_all is_hex ds) → length ds ≤ place / 4 → bit_at (hex_number ds) place ≡ 0

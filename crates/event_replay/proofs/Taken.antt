@@ -1,5 +1,5 @@
 -- How the members of an object set ports one by one.
-use Rattle.std.proofs.Common.{◌≡◌, ◌≢◌, ℕ, ◌+◌, ◌≤◌, ◌==◌, Bool, true, false, cond, Option, Some, None, is_some, List, [], ◌∷◌, ◌++◌, map, string_bytes, option_map, slice_get, flat_map, count_by, codes, Less, Equal, inl, inr, refl, sym, ap, ◌∙◌, subst, arith, rules, append_assoc, append-nil}
+use Rattle.std.proofs.Common.{◌≡◌, ℕ, ◌+◌, ◌==◌, Bool, true, false, cond, Option, Some, None, is_some, List, [], ◌∷◌, ◌++◌, map, string_bytes, option_map, count_by, codes, Less, Equal, inl, inr, refl, sym, ap, ◌∙◌, subst, arith, append_assoc, append-nil}
 use Rattle.std.specs.Cmp.Lexicographic.{slice_cmp}
 use Rattle.std.specs.List.{AllZip, AllByRecursion, position_from}
 use Rattle.std.specs.List.Sorted.{IsStrictlySortedBy}
@@ -12,8 +12,8 @@ use Rattle.std.proofs.lemmas.Cmp.{nat_list_cmp_total, tied_itself}
 use Rattle.std.proofs.lemmas.List.{map-append}
 use Rattle.std.proofs.lemmas.List.Sums.{sum_by-cons}
 use Rattle.std.proofs.lemmas.Slice.Eq.{bytes_eq-Decides}
-use Rattle.serde_json.specs.Data.{Data, null, boolean, number, string, array, object, Members, no_members, member}
-use Rattle.serde_json.specs.Find.{get, get_member, as_object, as_str}
+use Rattle.serde_json.specs.Data.{Data, null, boolean, number, string, array, object, Members}
+use Rattle.serde_json.specs.Find.{get, as_object, as_str}
 use Rattle.serde_json.specs.View.{view, members_view}
 use Rattle.serde_json.proofs.Views.{Entry}
 use Rattle.json_members.specs.JsonText.{IsTextOf}
@@ -47,9 +47,6 @@ pub record Taking (ports : List Port) (all rest : List Entry) (values : List Por
   pub set : AllZip (MemberSets ports) (map pair done) settings
   pub bits : values ≡ bits_set settings
 
-pub none_taken : (ports : List Port) (all : List Entry) → Taking ports all all []
-none_taken ports all = record { done = []; settings = []; split = refl; set = tt; bits = refl }
-
 -- the next member sets a port
 pub one_taken : (ports : List Port) (all rest : List Entry) (e : Entry) (values : List PortBit) (s : Setting) → Taking ports all (e ∷ rest) values → MemberSets ports (pair e) s → Taking ports all rest (values ++ shown_bits s.nets s.number)
 one_taken ports all rest e values s t here = record {
@@ -82,19 +79,19 @@ same_name from place (port ∷ ports) n m one other =
     let test-n = λ (p : Port). bytes_eq n p.name in
     let test-m = λ (p : Port). bytes_eq m p.name in
     elim (cases_Bool (bytes_eq n port.name)) [
-      inl yes-n ↦ elim (cases_Bool (bytes_eq m port.name)) [
-        inl yes-m ↦ (bytes_eq-Decides n port.name).0 yes-n ∙ sym ((bytes_eq-Decides m port.name).0 yes-m)
-      | inr no-m ↦ absurd (let here : Some from ≡ Some place = sym (first_yes test-n from port ports yes-n) ∙ one in
-          let place_is : from ≡ place = cc in
-          let later = position_within test-m (from + 1) place ports (sym (first_no test-m from port ports no-m) ∙ other) in
-          omega (arith, place_is, later.0))
+      | inl yes-n ↦ elim (cases_Bool (bytes_eq m port.name)) [
+        | inl yes-m ↦ (bytes_eq-Decides n port.name).0 yes-n ∙ sym ((bytes_eq-Decides m port.name).0 yes-m)
+        | inr no-m ↦ absurd (let here : Some from ≡ Some place = sym (first_yes test-n from port ports yes-n) ∙ one in
+            let place_is : from ≡ place = cc in
+            let later = position_within test-m (from + 1) place ports (sym (first_no test-m from port ports no-m) ∙ other) in
+            omega (arith, place_is, later.0))
       ]
-    | inr no-n ↦ elim (cases_Bool (bytes_eq m port.name)) [
-        inl yes-m ↦ absurd (let here : Some from ≡ Some place = sym (first_yes test-m from port ports yes-m) ∙ other in
-          let place_is : from ≡ place = cc in
-          let later = position_within test-n (from + 1) place ports (sym (first_no test-n from port ports no-n) ∙ one) in
-          omega (arith, place_is, later.0))
-      | inr no-m ↦ same_name (from + 1) place ports n m (sym (first_no test-n from port ports no-n) ∙ one) (sym (first_no test-m from port ports no-m) ∙ other)
+      | inr no-n ↦ elim (cases_Bool (bytes_eq m port.name)) [
+        | inl yes-m ↦ absurd (let here : Some from ≡ Some place = sym (first_yes test-m from port ports yes-m) ∙ other in
+            let place_is : from ≡ place = cc in
+            let later = position_within test-n (from + 1) place ports (sym (first_no test-n from port ports no-n) ∙ one) in
+            omega (arith, place_is, later.0))
+        | inr no-m ↦ same_name (from + 1) place ports n m (sym (first_no test-n from port ports no-n) ∙ one) (sym (first_no test-m from port ports no-m) ∙ other)
       ]
     ]
 
@@ -125,12 +122,12 @@ once_of ports (e ∷ es) (s ∷ ss) sorted set p =
     let count = sum_by-cons (λ (s : Setting). cond {A = ℕ} (s.port == p) 1 0) s ss in
     let rest = once_of ports es ss sorted.1 set.1 p in
     elim (cases_eq s.port p) [
-      inl same ↦
-        (let one : cond {A = ℕ} (s.port == p) 1 0 ≡ 1 = cond-true _ 1 0 (eq-eqb s.port p same) in
-        omega (arith, count, one, none_later ports p e es ss (set.0.2.named ∙ ap Some same) sorted.0 set.1))
-    | inr other ↦
-        (let none : cond {A = ℕ} (s.port == p) 1 0 ≡ 0 = cond-false _ 1 0 (ne_eqb s.port p other) in
-        omega (arith, count, none, rest))
+      | inl same ↦
+          (let one : cond {A = ℕ} (s.port == p) 1 0 ≡ 1 = cond-true _ 1 0 (eq-eqb s.port p same) in
+          omega (arith, count, one, none_later ports p e es ss (set.0.2.named ∙ ap Some same) sorted.0 set.1))
+      | inr other ↦
+          (let none : cond {A = ℕ} (s.port == p) 1 0 ≡ 0 = cond-false _ 1 0 (ne_eqb s.port p other) in
+          omega (arith, count, none, rest))
     ]
 
 of_ports : (ports : List Port) (es : List Entry) (settings : List Setting) → AllZip (MemberSets ports) (map pair es) settings → AllByRecursion (IsOfPort ports) settings
@@ -148,9 +145,6 @@ are_set ports all values t sorted =
       once = once_of ports t.done t.settings (subst (λ es. IsStrictlySortedBy string_cmp (keys_of es)) done sorted) t.set;
       bits = t.bits;
     }
-
-pub none_set : (ports : List Port) → AreSet ports []
-none_set ports = record { settings = []; of_ports = tt; once = λ p. omega arith; bits = refl }
 
 -- what an option is a map of
 pub mapped_some : {A B : Type 0} (f : A → B) (o : Option A) (y : B) → option_map f o ≡ Some y → (x : A) × (o ≡ Some x) × (f x ≡ y)

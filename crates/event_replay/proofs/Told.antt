@@ -1,7 +1,7 @@
 -- How the words of a line set ports one by one, and how the lines of a text tell events one by one.
-use Rattle.std.proofs.Common.{◌≡◌, ◌≢◌, ◌↔◌, ℕ, zero, suc, ◌+◌, ◌<◌, ◌≤◌, ◌==◌, Bool, true, false, not, cond, IsTrue, Option, Some, None, List, [], ◌∷◌, ◌++◌, map, filter, get_or, set, length, count_by, All, Contains, Result, Ok, Err, IfOk, MatchOption, codes, inl, inr, refl, sym, ap, ◌∙◌, subst, arith, rules, append_assoc, append-nil, length-set, get_or-set_same, get_or-set_other}
+use Rattle.std.proofs.Common.{◌≡◌, ℕ, ◌+◌, ◌<◌, ◌≤◌, ◌==◌, true, false, not, cond, IsTrue, Option, Some, None, List, [], ◌∷◌, ◌++◌, filter, get_or, set, length, count_by, All, Contains, Result, Ok, Err, IfOk, MatchOption, codes, inl, inr, refl, sym, ap, ◌∙◌, subst, arith, append_assoc, length-set, get_or-set_same, get_or-set_other}
 use Rattle.std.specs.List.{AllZip, AllByRecursion, list_any, list_all}
-use Rattle.std.proofs.lemmas.Bool.{cases_eq, eq-eqb, ne_eqb, cond-true, cond-false, true≢false, or_cases, or_right, or_from, and_parts}
+use Rattle.std.proofs.lemmas.Bool.{cases_eq, eq-eqb, ne_eqb, cond-true, cond-false, true≢false, or_right, or_from, and_parts}
 use Rattle.std.proofs.lemmas.List.Elements.{All-nil, All-cons, All-contains}
 use Rattle.std.proofs.lemmas.List.Sums.{sum_by-cons, sum_by-append}
 use Rattle.design_core.specs.declared.parts.Parts.{Parts}
@@ -12,9 +12,9 @@ use Rattle.design_core.specs.Design.{IsDesign}
 use Rattle.event_replay.specs.declared.fault.TextFault.{TextFault}
 use Rattle.event_replay.specs.Faults.{Answers}
 use Rattle.event_replay.specs.Events.{AreFresh, SaysEvents, TellsEvent, WordSets, WordsGive, TextsTellEventsApart}
-use Rattle.event_replay.specs.Lines.{words, event_lines, is_passed_over, is_plain, lines}
+use Rattle.event_replay.specs.Lines.{words, event_lines, is_passed_over, lines}
 use Rattle.event_replay.specs.Settings.{Setting, Sets, IsOfPort, AreSet, AreInputBits, EachOnce, bits_set}
-use Rattle.event_replay.specs.Values.{shown_bits, hex_number, is_hex}
+use Rattle.event_replay.specs.Values.{shown_bits, is_hex}
 use Rattle.event_replay.proofs.InputBits.{input_bits}
 use Rattle.event_replay.proofs.OneOpening.{one_setting}
 use Rattle.event_replay.proofs.Taken.{bits_push}
@@ -48,18 +48,10 @@ one_word ports word s t a b =
     let same = same_parts a.name b.name a.digits b.digits (sym a.parts ∙ b.parts) (no_equals a.digits a.sets.value.hex) (no_equals b.digits b.sets.value.hex) in
     one_setting ports b.name b.digits s t (subst (λ n. Sets ports n b.digits s) same.0 (subst (λ d. Sets ports a.name d s) same.1 a.sets)) b.sets
 
--- a word that is parted so sets what its parts set
-pub word_sets : (ports : List Port) (word name digits : List ℕ) (s : Setting) → word ≡ name ++ 61 ∷ digits → Sets ports name digits s → WordSets ports word s
-word_sets ports word name digits s parts sets = record { name = name; digits = digits; parts = parts; sets = sets }
-
 pub word_stuck : (ports : List Port) (word name digits : List ℕ) → word ≡ name ++ 61 ∷ digits → list_any (λ byte. byte == 61) digits ≡ false → ((s : Setting) → Sets ports name digits s → ⊥) → (s : Setting) → WordSets ports word s → ⊥
 word_stuck ports word name digits parts none wrong s w =
     let same = same_parts w.name name w.digits digits (sym w.parts ∙ parts) (no_equals w.digits w.sets.value.hex) none in
     wrong s (subst (λ n. Sets ports n digits s) same.0 (subst (λ d. Sets ports w.name d s) same.1 w.sets))
-
-pub word_unparted : (ports : List Port) (word : List ℕ) → list_any (λ byte. byte == 61) word ≡ false → (s : Setting) → WordSets ports word s → ⊥
-word_unparted ports word none s w =
-    true≢false (sym (has_equals w.name w.digits) ∙ ap (list_any (λ byte. byte == 61)) (sym w.parts) ∙ none)
 
 -- how often settings set a port
 abbrev pub set_count : ℕ → List Setting → ℕ
@@ -127,29 +119,30 @@ module _ (ports : List Port) (all rest : List (List ℕ)) (word : List ℕ) (mar
     split = u.split ∙ sym (append_assoc u.done (word ∷ []) rest);
     set = zip_push (WordSets ports) u.done u.settings word s u.set here;
     once = λ port. elim (cases_eq s.port port) [
-      inl same ↦ (let one = counted port s same in let none = u.unmarked s.port differs in let other : set_count port u.settings ≡ 0 = subst (λ p. set_count p u.settings ≡ 0) same none in omega (arith, count_push port u.settings s []))
-    | inr other ↦ (let none = uncounted port s other in let before = u.once port in omega (arith, count_push port u.settings s []))
+      | inl same ↦ (let one = counted port s same in let none = u.unmarked s.port differs in let other : set_count port u.settings ≡ 0 = subst (λ p. set_count p u.settings ≡ 0) same none in omega (arith, count_push port u.settings s []))
+      | inr other ↦ (let none = uncounted port s other in let before = u.once port in omega (arith, count_push port u.settings s []))
     ];
     bits = added ∙ ap (λ bits. bits ++ shown_bits s.nets s.number) u.bits ∙ sym (bits_push u.settings s);
     marked = λ port mark. elim (cases_eq s.port port) [
-      inl same ↦ (let one = counted port s same in omega (arith, count_push port u.settings s []))
-    | inr other ↦ (let before = u.marked port (sym (kept port other) ∙ mark) in omega (arith, count_push port u.settings s []))
+      | inl same ↦ (let one = counted port s same in omega (arith, count_push port u.settings s []))
+      | inr other ↦ (let before = u.marked port (sym (kept port other) ∙ mark) in omega (arith, count_push port u.settings s []))
     ];
     unmarked = λ port none. elim (cases_eq s.port port) [
-      inl same ↦ absurd (none (ap (λ p. get_or marks-2 p 0) (sym same) ∙ own))
-    | inr other ↦ (let zero_is = uncounted port s other in let before = u.unmarked port (λ mark. none (kept port other ∙ mark)) in omega (arith, count_push port u.settings s []))
+      | inl same ↦ absurd (none (ap (λ p. get_or marks-2 p 0) (sym same) ∙ own))
+      | inr other ↦ (let zero_is = uncounted port s other in let before = u.unmarked port (λ mark. none (kept port other ∙ mark)) in omega (arith, count_push port u.settings s []))
     ];
     fresh = record {
       size = ap length written ∙ length-set marks s.port line ∙ u.fresh.size;
       earlier = λ port. elim (cases_eq s.port port) [
-        inl same ↦ (let here-2 : get_or marks-2 port 0 ≡ line = ap (λ p. get_or marks-2 p 0) (sym same) ∙ own in omega arith)
-      | inr other ↦ (let there = kept port other in let before = u.fresh.earlier port in omega arith)
+        | inl same ↦ (let here-2 : get_or marks-2 port 0 ≡ line = ap (λ p. get_or marks-2 p 0) (sym same) ∙ own in omega arith)
+        | inr other ↦ (let there = kept port other in let before = u.fresh.earlier port in omega arith)
       ];
     };
   }
     where
       own : get_or marks-2 s.port 0 ≡ line
       own = ap (λ ms. get_or ms s.port 0) written ∙ get_or-set_same marks s.port line 0 inside
+
       kept : (port : ℕ) → (s.port ≡ port → ⊥) → get_or marks-2 port 0 ≡ get_or marks port 0
       kept port other = ap (λ ms. get_or ms port 0) written ∙ get_or-set_other marks s.port port line 0 (λ e. other (sym e))
 
@@ -163,34 +156,16 @@ of_words ports (w ∷ ws) (s ∷ ss) set = (set.0.sets.nets, of_words ports ws s
 pub words_set : (ports : List Port) (given : List (List ℕ)) (values : List PortBit) → WordsGive ports given values → AreSet ports values
 words_set ports given values gives = record { settings = gives.settings; of_ports = of_words ports given gives.settings gives.set; once = gives.once; bits = gives.bits }
 
--- all words are taken
-pub words_give : (ports : List Port) (all rest : List (List ℕ)) (marks : List ℕ) (line : ℕ) (values : List PortBit) → Setting-up ports all rest marks line values → rest ≡ [] → WordsGive ports all values
-words_give ports all rest marks line values u ended = record {
-  settings = u.settings;
-  set = subst (λ ws. AllZip (WordSets ports) ws u.settings) (sym (u.split ∙ ap (λ r. u.done ++ r) ended ∙ append-nil u.done)) u.set;
-  once = u.once;
-  bits = u.bits;
-}
-
--- a line whose words are these tells the event of the values that they give
+-- a line whose words are these tells events of the values that they give
 module _ (ports : List Port) (line group : List ℕ) (rest : List (List ℕ)) (are_words : words line ≡ group ∷ rest) where
-  pub event_tells : (event : Event) → IsTrue (list_all is_plain line) → group ≡ codes "*" → event.group.place ≡ 0 → WordsGive ports rest event.values → TellsEvent ports line event
-  event_tells event plain star place gives = record { plain = plain; further = rest; are_words = are_words ∙ ap (λ g. g ∷ rest) star; group = place; gives = gives }
-
   same_words : (event : Event) (t : TellsEvent ports line event) → group ∷ rest ≡ codes "*" ∷ t.further
   same_words event t = sym are_words ∙ t.are_words
-
-  pub star_told : (event : Event) → TellsEvent ports line event → group ≡ codes "*"
-  star_told event t = let same = same_words event t in cc
 
   pub words_told : (event : Event) → TellsEvent ports line event → WordsGive ports rest event.values
   words_told event t =
       let same = same_words event t in
       let rests : rest ≡ t.further = cc in
       subst (λ ws. WordsGive ports ws event.values) (sym rests) t.gives
-
-pub no_words_told : (ports : List Port) (line : List ℕ) → words line ≡ [] → (event : Event) → TellsEvent ports line event → ⊥
-no_words_told ports line none event t = let same : [] ≡ codes "*" ∷ t.further = sym none ∙ t.are_words in absurd (cc)
 
 -- what is left of a text, if there is more
 abbrev pub lines_left : Option (List ℕ) → List (List ℕ)
@@ -219,9 +194,6 @@ pub record Telling (ports : List Port) (all rest : List (List ℕ)) (events : Li
   pub split : all ≡ done ++ rest
   pub told : AllZip (TellsEvent ports) done events
 
-pub nothing_told : (ports : List Port) (all : List (List ℕ)) → Telling ports all all []
-nothing_told ports all = record { done = []; split = refl; told = tt }
-
 pub event_told : (ports : List Port) (all rest : List (List ℕ)) (line : List ℕ) (events : List Event) (event : Event) → Telling ports all (line ∷ rest) events → TellsEvent ports line event → Telling ports all rest (events ++ event ∷ [])
 event_told ports all rest line events event t here = record {
   done = t.done ++ line ∷ [];
@@ -232,12 +204,6 @@ event_told ports all rest line events event t here = record {
 pub line_wrong : (ports : List Port) (all rest : List (List ℕ)) (line : List ℕ) (events : List Event) → Telling ports all (line ∷ rest) events → (others : List Event) → AllZip (TellsEvent ports) all others → (event : Event) × TellsEvent ports line event
 line_wrong ports all rest line events t others says =
     zip_partner (TellsEvent ports) t.done line rest others (subst (λ ls. AllZip (TellsEvent ports) ls others) t.split says)
-
-pub all_told : (ports : List Port) (all rest : List (List ℕ)) (events : List Event) → Telling ports all rest events → rest ≡ [] → AllZip (TellsEvent ports) all events
-all_told ports all rest events t ended = subst (λ ls. AllZip (TellsEvent ports) ls events) (sym (t.split ∙ ap (λ r. t.done ++ r) ended ∙ append-nil t.done)) t.told
-
-pub fresher : (ports : List Port) (marks : List ℕ) (line later : ℕ) → line ≤ later → AreFresh ports marks line → AreFresh ports marks later
-fresher ports marks line later after fresh = record { size = fresh.size; earlier = λ port. omega (arith, fresh.earlier port) }
 
 -- the values of each event set ports
 pub events_set : (ports : List Port) (given : List (List ℕ)) (events : List Event) → AllZip (TellsEvent ports) given events → All (λ event. AreSet ports event.values) events

@@ -1,5 +1,5 @@
 -- Two lists whose elements are related place by place.
-use Rattle.std.proofs.Common.{◌≡◌, List, [], ◌∷◌, ◌++◌, refl, sym, ap, ◌∙◌, subst}
+use Rattle.std.proofs.Common.{◌≡◌, List, [], ◌∷◌, ◌++◌, refl}
 use Rattle.std.specs.List.{AllZip}
 
 module _ {X Y : Type 0} (R : X → Y → Type 0) where

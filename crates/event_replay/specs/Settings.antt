@@ -1,6 +1,6 @@
 -- Values given to input ports, and the input bits that they give.
 -- The rule is told in docs/FORMATS.md, "Openings and events".
-use Rattle.std.specs.Prelude.{◌≡◌, ◌==◌, ◌≤◌, ℕ, Option, Some, List, map, length, option_map, slice_get, count_by, flat_map, Contains}
+use Rattle.std.specs.Prelude.{◌≡◌, ◌==◌, ◌≤◌, ℕ, Option, Some, List, length, option_map, slice_get, count_by, flat_map, Contains}
 use Rattle.std.specs.List.{position_from, AllByRecursion}
 use Rattle.std.specs.Str.{bytes_eq}
 use Rattle.id_arena.specs.declared.keys.NetId.{NetId}

@@ -22,11 +22,7 @@ use std::alloc::Global;
 /// `* clk=1 data=1f`.
 ///
 /// `NotYet` exactly where one of these lines is wrong, or begins with another word than `*`.
-pub fn read_events(
-    alloc: Global,
-    bytes: &[u8],
-    design: &Design,
-) -> Result<List<Event>, TextFault>
+pub fn read_events(alloc: Global, bytes: &[u8], design: &Design) -> Result<List<Event>, TextFault>
     ensures means { Answers (SaysEvents design.now.inputs bytes.now) result }
     ensures bits { IfOk result (λ events. (event : Event) → Contains events event → AreInputBits design.now event.values) }
 {

@@ -17,3 +17,6 @@ pub use events::{events_are_told_apart, read_events};
 pub use fault::TextFault;
 pub use opening::{openings_are_told_apart, read_opening};
 pub use trace::trace_line;
+
+#[cfg(test)]
+mod tests;

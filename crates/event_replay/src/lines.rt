@@ -60,10 +60,7 @@ pub(crate) fn cut_word(line: &[u8]) -> Option<(&[u8], &[u8])>
         (length line.now ≡ length line.now)
         (λ cut. length cut.1.now < length line.now) }
 {
-    match line
-        .iter()
-        .position(|byte| !matches!(byte, b' ' | b'\t'))
-    {
+    match line.iter().position(|byte| !matches!(byte, b' ' | b'\t')) {
         Some(start) => Some(take_word(&line[start..])),
         None => None,
     }
@@ -87,7 +84,7 @@ pub(crate) fn part_word(word: &[u8]) -> Option<(&[u8], &[u8])>
     ensures { MatchOption result
         (list_any (λ byte. byte == 61) word.now ≡ false)
         (λ parts. (word.now ≡ parts.0.now ++ 61 ∷ parts.1.now)
-            × (list_any (λ byte. byte == 61) parts.1.now ≡ false)) }
+        × (list_any (λ byte. byte == 61) parts.1.now ≡ false)) }
 {
     match word.iter().rposition(|byte| *byte == b'=') {
         Some(place) => Some((&word[..place], &word[place + 1..])),

@@ -19,11 +19,7 @@ use std::alloc::Global;
 /// not name are 0.
 ///
 /// `NotYet` exactly where the text is no such object, or names states or words besides.
-pub fn read_opening(
-    alloc: Global,
-    bytes: &[u8],
-    design: &Design,
-) -> Result<PortValues, TextFault>
+pub fn read_opening(alloc: Global, bytes: &[u8], design: &Design) -> Result<PortValues, TextFault>
     ensures means { Answers (SaysOpening design.now.inputs bytes.now) result }
     ensures bits { IfOk result (λ values. AreInputBits design.now values) }
 {
@@ -39,11 +35,7 @@ pub fn openings_are_told_apart()
 {}
 
 /// The values that the tree of an opening gives.
-fn read_tree(
-    alloc: Global,
-    tree: &Value,
-    ports: &PortNames<'_>,
-) -> Result<PortValues, TextFault>
+fn read_tree(alloc: Global, tree: &Value, ports: &PortNames<'_>) -> Result<PortValues, TextFault>
     ensures means { Answers (IsOpening ports.now (view tree.now)) result }
     ensures set { IfOk result (λ values. AreSet ports.now values) }
 {

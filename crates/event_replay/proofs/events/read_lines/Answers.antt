@@ -1,4 +1,4 @@
-use Rattle.std.proofs.Common.{◌≡◌, ◌∙◌, ◌≤◌, [], ◌∷◌, sym, ap, subst, rules, arith, false, option_copied}
+use Rattle.std.proofs.Common.{◌≡◌, ◌∙◌, ◌∷◌, sym, ap, subst, arith, false, option_copied}
 use Rattle.event_replay.specs.Events.{SaysEvents, TellsEvent}
 use Rattle.event_replay.specs.Lines.{event_lines, is_passed_over}
 use Rattle.event_replay.proofs.Answering.{same_fault}

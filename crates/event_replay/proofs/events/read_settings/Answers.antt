@@ -1,5 +1,4 @@
-use Rattle.std.proofs.Common.{◌≡◌, ◌≢◌, ◌∙◌, ◌<◌, sym, ap, subst, rules, arith, refl, get_or, length}
-use Rattle.std.proofs.lemmas.Bool.{eqb-true, eqb-false}
+use Rattle.std.proofs.Common.{sym, subst, rules, refl}
 use Rattle.event_replay.specs.Lines.{words}
 use Rattle.event_replay.specs.Settings.{Setting}
 use Rattle.event_replay.specs.Values.{hex_number}

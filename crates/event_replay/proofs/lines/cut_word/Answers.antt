@@ -1,4 +1,4 @@
-use Rattle.std.proofs.Common.{rules, arith, ◌∙◌}
+use Rattle.std.proofs.Common.{rules, ◌∙◌}
 use Rattle.std.proofs.lemmas.List.{take_rest}
 use Rattle.event_replay.proofs.Pieces.{words_from, no_words}
 use Rattle.event_replay.proofs.lines.cut_word.Goals as goal

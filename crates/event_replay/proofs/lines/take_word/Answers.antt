@@ -1,4 +1,4 @@
-use Rattle.std.proofs.Common.{◌≡◌, ◌<◌, ◌≢◌, true, false, get_or, rules, arith, sym, ◌∙◌}
+use Rattle.std.proofs.Common.{◌≡◌, true, get_or, rules}
 use Rattle.std.proofs.lemmas.List.{take_rest}
 use Rattle.event_replay.specs.Lines.{is_blank}
 use Rattle.event_replay.proofs.Pieces.{word_cut, word_last, after_first}

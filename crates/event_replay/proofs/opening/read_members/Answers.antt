@@ -1,4 +1,4 @@
-use Rattle.std.proofs.Common.{◌≡◌, ◌∙◌, [], ◌∷◌, Some, string_bytes, option_map, sym, ap, subst, rules}
+use Rattle.std.proofs.Common.{◌∙◌, string_bytes, option_map, sym, ap, subst, rules}
 use Rattle.serde_json.specs.Find.{as_str}
 use Rattle.serde_json.specs.View.{view}
 use Rattle.serde_json.proofs.Views.{Entry}

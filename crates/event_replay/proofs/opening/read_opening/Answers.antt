@@ -1,4 +1,4 @@
-use Rattle.std.proofs.Common.{◌≡◌, ◌∙◌, sym, ap, subst}
+use Rattle.std.proofs.Common.{◌≡◌, ◌∙◌, subst}
 use Rattle.serde_json.specs.View.{view}
 use Rattle.event_replay.specs.Openings.{IsOpening, SaysOpening}
 use Rattle.event_replay.specs.Settings.{AreSet, AreInputBits}

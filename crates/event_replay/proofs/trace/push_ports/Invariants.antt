@@ -1,4 +1,4 @@
-use Rattle.std.proofs.Common.{◌≡◌, ◌++◌, ℕ, List, length, drop}
+use Rattle.std.proofs.Common.{◌≡◌, ◌++◌, length, drop}
 use Rattle.design_core.specs.Design.{port_bits}
 use Rattle.event_replay.specs.Traces.{ports_text}
 use Rattle.event_replay.proofs.trace.push_ports.Given as goal

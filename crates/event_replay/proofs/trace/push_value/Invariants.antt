@@ -1,4 +1,4 @@
-use Rattle.std.proofs.Common.{◌≡◌, ◌++◌, ◌≤◌, ℕ, List, length}
+use Rattle.std.proofs.Common.{◌≡◌, ◌++◌, ◌≤◌, length}
 use Rattle.design_core.specs.Operation.{number}
 use Rattle.event_replay.specs.Traces.{digit_count, hex_text}
 use Rattle.event_replay.proofs.trace.push_value.Given as goal

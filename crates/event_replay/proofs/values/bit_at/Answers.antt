@@ -1,4 +1,4 @@
-use Rattle.std.proofs.Common.{◌∙◌, ◌≡◌, sym, ap, arith, rules, ◌==◌, ◌%◌, ◌-◌, ◌/◌, get_or, length}
+use Rattle.std.proofs.Common.{◌∙◌, sym, ap, arith, ◌==◌, ◌%◌, ◌-◌, ◌/◌, get_or, length}
 use Rattle.design_core.specs.Operation.{bit_of}
 use Rattle.event_replay.proofs.ReadDigits.{digit_read, bit_found, bit_beyond}
 use Rattle.event_replay.proofs.values.bit_at.Goals as goal

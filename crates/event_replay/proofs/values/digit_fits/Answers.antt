@@ -1,4 +1,4 @@
-use Rattle.std.proofs.Common.{◌∙◌, ◌≡◌, sym, ap, subst, arith, rules, ◌<◌, ◌*◌, ◌^◌}
+use Rattle.std.proofs.Common.{sym, ap, subst, arith, rules, ◌<◌, ◌*◌, ◌^◌}
 use Rattle.event_replay.proofs.ReadDigits.{digit_read, too_high, with_room}
 use Rattle.event_replay.proofs.values.digit_fits.Goals as goal
 

@@ -1,6 +1,5 @@
-use Rattle.std.proofs.Common.{◌≡◌, arith, rules, true, ltb}
-use Rattle.event_replay.specs.Values.{IsValue}
-use Rattle.event_replay.proofs.ReadDigits.{Fits, fits_more, fits_all}
+use Rattle.std.proofs.Common.{rules}
+use Rattle.event_replay.proofs.ReadDigits.{fits_more, fits_all}
 use Rattle.event_replay.proofs.values.is_value.Goals as goal
 
 pub digits-preserved : goal.digits-preserved

@@ -1,4 +1,4 @@
-use Rattle.std.proofs.Common.{arith, refl, ◌<◌, ◌≤◌, ◌^◌}
+use Rattle.std.proofs.Common.{arith, refl}
 use Rattle.std.proofs.Math.Nat.{pow-le-pow_right}
 use Rattle.event_replay.proofs.values.takes_at_most.Goals as goal
 

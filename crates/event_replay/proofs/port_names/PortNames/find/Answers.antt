@@ -1,4 +1,4 @@
-use Rattle.std.proofs.Common.{◌≡◌, ◌∙◌, sym, ap, subst, rules, arith, refl, Some, None, length, slice_get, ◌<◌}
+use Rattle.std.proofs.Common.{◌≡◌, ◌∙◌, sym, ap, subst, rules, arith, refl, Some, length, slice_get, ◌<◌}
 use Rattle.std.proofs.lemmas.Option.{slice_get_read, slice_get_within}
 use Rattle.event_replay.specs.Settings.{port_named}
 use Rattle.event_replay.proofs.FirstPorts.{named_within, not_among}

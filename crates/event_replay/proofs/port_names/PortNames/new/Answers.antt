@@ -1,4 +1,4 @@
-use Rattle.std.proofs.Common.{◌≡◌, sym, rules, refl}
+use Rattle.std.proofs.Common.{rules}
 use Rattle.event_replay.proofs.FirstPorts.{taken_in}
 use Rattle.event_replay.proofs.port_names.PortNames.new.Goals as goal
 use Rattle.event_replay.proofs.port_names.PortNames.new.Goals.{then-number-known+in_ok-push, else-number-known}

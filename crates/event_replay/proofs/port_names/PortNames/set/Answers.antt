@@ -1,6 +1,5 @@
-use Rattle.std.proofs.Common.{◌≡◌, ◌∙◌, sym, rules, Some, length, ◌<◌, false}
+use Rattle.std.proofs.Common.{◌∙◌, sym, rules}
 use Rattle.std.proofs.lemmas.Bool.{both_ways}
-use Rattle.event_replay.specs.Settings.{port_named}
 use Rattle.event_replay.proofs.FirstPorts.{sets_found, sets_none}
 use Rattle.event_replay.proofs.port_names.PortNames.set.Goals as goal
 
