@@ -21,4 +21,3 @@ mod weights;
 
 pub use judging::judge;
 pub use verdict::{Rule, Verdict};
-
