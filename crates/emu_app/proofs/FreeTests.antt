@@ -1,5 +1,6 @@
 -- That acceptance does not hang on which test of the influence is taken: all tests say the same.
-use Rattle.std.proofs.Common.{ℕ, ◌≡◌, ◌<◌, ◌↔◌, ◌&&◌, Bool, true, false, not, Option, Some, None, is_some, IsTrue, slice_get, refl, sym, subst, fun_ext}
+use Rattle.std.proofs.Common.{ℕ, ◌≡◌, ◌<◌, ◌↔◌, ◌&&◌, Bool, true, false, not, Option, Some, None, is_some, IsTrue, slice_get, [], refl, sym, subst, fun_ext}
+use Rattle.std.specs.Option.{option_map_or}
 use Rattle.design_core.specs.declared.node.NodeId.{NodeId}
 use Rattle.design_core.specs.Influence.{Group, all_groups, IsReached}
 use Rattle.emu_machine.specs.declared.place.Place.{Place}
@@ -52,7 +53,11 @@ module _ (c : Case) (one other : ℕ → NodeId → Bool) (of-one : Influences c
 
   -- an action stands in a frame that is there
   frame_there : (k t j : ℕ) → FailsA10 c other (Action k t j) → IsTrue (has_frame c k)
-  frame_there k t j fails = ?
+  frame_there k t j fails = go (slice_get c.results.schedule.frames k) fails
+    where
+      go : (f : Option FrameOf) → fails_test (sends_inside c (other k)) (slice_get (option_map_or (λ slot. slot.actions) (slice_get (option_map_or (λ frame. frame.slots) f []) t) []) j) → IsTrue (is_some f)
+      go None never = absurd never
+      go (Some f) here = refl
 
   moved_a10 : (at : Place) → FailsA10 c other at → FailsA10 c one at
   moved_a10 (Action k t j) fails = subst (λ (test : NodeId → Bool). FailsA10 c (λ i. test) (Action k t j)) (same_test k (frame_there k t j fails)) fails

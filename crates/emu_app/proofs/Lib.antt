@@ -5,3 +5,4 @@ pub mod FirstUnread
 pub mod Endings
 mod Refusals
 pub mod FreeTests
+pub mod Completing

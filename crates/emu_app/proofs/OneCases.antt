@@ -27,7 +27,7 @@ use Rattle.emu_app.specs.Reading.{BoardSays, ResultsSay, StandFor, StandForOne, 
 use Rattle.emu_app.proofs.Readings.{tokens_once, one_tree, one_plan, one_chip_plan}
 
 -- a text describes one design
-one_design : reading.EachTextHasOneAnswer → HasOneTree → designs.TreesTellDesignsApart → (top text : List ℕ) (p q : Parts) → SaysDesign top text p → SaysDesign top text q → p ≡ q
+pub one_design : reading.EachTextHasOneAnswer → HasOneTree → designs.TreesTellDesignsApart → (top text : List ℕ) (p q : Parts) → SaysDesign top text p → SaysDesign top text q → p ≡ q
 one_design law trees apart top text p q says-p says-q =
     let same : (says-q.tokens ≡ says-p.tokens) × (says-q.tree ≡ says-p.tree) = one_tree law trees text says-p.tokens says-q.tokens says-p.tree says-q.tree says-p.is_tree says-q.is_tree in
     apart text says-p.tokens says-p.tree top p q says-p.describes

@@ -20,8 +20,17 @@ use Rattle.design_core.specs.declared.parts.Parts.{Parts}
 use Rattle.design_core.specs.Dependency.{IsRanked}
 use Rattle.emu_app.specs.declared.refusal.TextFault.{TextFault}
 use Rattle.emu_app.specs.declared.refusal.TextFault.TheVariants.{BadByte, OpenComment, OpenAttribute, BadNumber, UnknownDigit, Directive, Expected, Unsupported, TooDeep}
+use Rattle.emu_machine.specs.Acceptance.{Case}
+use Rattle.emu_app.specs.declared.command.Command.TheVariants.{Check}
+use Rattle.emu_app.specs.declared.refusal.Refusal.TheVariants as refusal
+use Rattle.emu_app.specs.declared.what.What.{What}
+use Rattle.emu_app.specs.declared.what.What.TheVariants.{Design, Cells, Groups, Board, Netlist, Schedule as ScheduleText, Map, Opening, Events}
+use Rattle.emu_app.specs.What.{order}
+use Rattle.emu_app.specs.Fetching.{Texts}
 use Rattle.emu_app.specs.Faults.{HasFault, HasNoTree}
 use Rattle.emu_app.specs.Forms.{AreTokens, IsTreeOf, SaysDesign}
+use Rattle.emu_app.specs.Reading.{FirstUnread, IsRead, NotYetMeans, RefusedTextsStandForNothing, StandFor}
+use Rattle.emu_app.proofs.OneCases.{one_design}
 use Rattle.emu_app.proofs.Readings.{one_answer, tokens_once}
 
 -- tokens with a first fault have no tree
@@ -68,3 +77,39 @@ no_tree_with_fault law text Directive at tokens tree has is = no_tokens_where la
 no_tree_with_fault law text Expected at tokens tree has is = no_tree_where law text parse.Expected at tokens tree (λ p e. cc) has is
 no_tree_with_fault law text Unsupported at tokens tree has is = no_tree_where law text parse.Unsupported at tokens tree (λ p e. cc) has is
 no_tree_with_fault law text TooDeep at tokens tree has is = no_tree_where law text parse.TooDeep at tokens tree (λ p e. cc) has is
+
+-- a text that is not of its form, and one that is
+read_text : (top : List ℕ) (texts : Texts) (what : What) (c : Case) → order Design < order what → StandFor top texts c → IsRead top texts what
+read_text top texts Design c later s = absurd (omega (arith, later))
+read_text top texts Cells c later s = tt
+read_text top texts Groups c later s = s.board_says.groups
+read_text top texts Board c later s = (s.chip, s.board_says.board)
+read_text top texts Netlist c later s = (s.results_say.chip, s.results_say.says_netlist)
+read_text top texts ScheduleText c later s = (s.results_say.schedule, s.results_say.says_schedule)
+read_text top texts Map c later s = (s.results_say.chip, s.results_say.map, s.results_say.says_netlist, s.results_say.says_map)
+read_text top texts Opening c later s = tt
+read_text top texts Events c later s = tt
+
+not_first : (top : List ℕ) (texts : Texts) (what : What) (c : Case) → FirstUnread Check top texts what → StandFor top texts c → ⊥
+not_first top texts what c first s = first.here (read_text top texts what c first.later s)
+
+not_yet : (top : List ℕ) (texts : Texts) (what : What) (c : Case) → NotYetMeans Check top texts what → StandFor top texts c → ⊥
+not_yet top texts Design c means s = means.none s.design s.board_says.design
+not_yet top texts Cells c means s = not_first top texts Cells c means s
+not_yet top texts Groups c means s = not_first top texts Groups c means s
+not_yet top texts Board c means s = not_first top texts Board c means s
+not_yet top texts Netlist c means s = not_first top texts Netlist c means s
+not_yet top texts ScheduleText c means s = not_first top texts ScheduleText c means s
+not_yet top texts Map c means s = not_first top texts Map c means s
+not_yet top texts Opening c means s = not_first top texts Opening c means s
+not_yet top texts Events c means s = not_first top texts Events c means s
+
+-- texts that are refused stand for no case
+pub refused_stand_for_nothing : reading.EachTextHasOneAnswer → HasOneTree → designs.TreesTellDesignsApart → CyclesAreUnranked → RefusedTextsStandForNothing
+refused_stand_for_nothing law trees apart cycles top texts (refusal.Faulty fault) c means s =
+    let says : SaysDesign top (texts Design) s.design = s.board_says.design in
+    no_tree_with_fault law (texts Design) fault.kind fault.at says.tokens says.tree means says.is_tree
+refused_stand_for_nothing law trees apart cycles top texts (refusal.Cycle names) c means s =
+    let same : s.design ≡ means.design = one_design law trees apart top (texts Design) s.design means.design s.board_says.design means.says in
+    cycles means.design means.cycle.nodes means.cycle.is_cycle (subst IsRanked same s.board_says.ranked)
+refused_stand_for_nothing law trees apart cycles top texts (refusal.NotYet what) c means s = not_yet top texts what c means s

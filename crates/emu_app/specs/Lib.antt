@@ -9,3 +9,4 @@ pub mod Reading
 pub mod Answers
 pub mod Cases
 pub mod Outcomes
+pub mod Complete

@@ -13,6 +13,7 @@ use Rattle.emu_machine.specs.declared.results.Results.{Results}
 use Rattle.emu_machine.specs.Acceptance.{Case}
 use Rattle.schedule_check.specs.Verdict.{plain_case}
 use Rattle.emu_app.specs.declared.command.Command.{Command}
+use Rattle.emu_app.specs.declared.command.Command.TheVariants.{Check}
 use Rattle.emu_app.specs.declared.what.What.{What}
 use Rattle.emu_app.specs.declared.what.What.TheVariants.{Design, Cells, Groups, Board, Netlist, Schedule as ScheduleText, Map, Opening, Events}
 use Rattle.emu_app.specs.declared.plan_texts.OneChip.{OneChip}
@@ -147,3 +148,8 @@ AllMean command top texts Says (Err unread.NoMemory) = Unit {0}
 abbrev pub TextsTellCasesApart : Type 0
 TextsTellCasesApart =
     (top : List ℕ) (texts : Texts) (c d : Case) → StandFor top texts c → StandFor top texts d → d ≡ c
+
+-- texts that are refused stand for no case
+abbrev pub RefusedTextsStandForNothing : Type 0
+RefusedTextsStandForNothing =
+    (top : List ℕ) (texts : Texts) (why : Refusal) (c : Case) → Refuses Check top texts why → StandFor top texts c → ⊥

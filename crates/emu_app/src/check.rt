@@ -10,10 +10,11 @@ ghost use Rattle.emu_app.specs.Answers.{JudgeMeans};
 ghost use Rattle.emu_app.specs.Cases.{JudgesAll};
 ghost use Rattle.emu_app.specs.Command.{text_count};
 ghost use Rattle.emu_app.specs.Fetching.{AreWithin, texts_of};
-ghost use Rattle.emu_app.specs.Reading.{AllMean, TextsTellCasesApart};
+ghost use Rattle.emu_app.specs.Reading.{AllMean};
 
 use crate::answer::Answer;
 use crate::command::Command;
+use crate::laws::texts_tell_cases_apart;
 use crate::plan_texts::OneChip;
 use crate::reading::{read_board_texts, read_first, read_results};
 use crate::refusal::Unread;
@@ -73,17 +74,4 @@ fn judge_case(
         }),
         Verdict::Rejected { .. } => Ok(Answer::Rejected),
     }
-}
-
-/// The law that texts stand for one case at most. There is nothing to run.
-fn texts_tell_cases_apart()
-    ensures { TextsTellCasesApart }
-{
-    verilog_lex::each_text_has_one_answer();
-    verilog_tree::has_one_tree();
-    elaborator::trees_tell_designs_apart();
-    board_model::each_text_has_one_answer();
-    result_files::plain_netlists_are_told_apart();
-    result_files::plain_schedules_are_told_apart();
-    result_files::plain_maps_are_told_apart();
 }

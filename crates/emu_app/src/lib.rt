@@ -11,6 +11,7 @@ mod check;
 mod command;
 mod design_text;
 mod fetch;
+mod laws;
 mod plan_texts;
 mod ranking;
 mod reading;

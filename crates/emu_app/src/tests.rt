@@ -1,6 +1,11 @@
 //! Commands over texts in memory: how each ends, and what it prints, to the byte.
 
+mod judged;
+mod refused;
+
 use crate::{Status, run};
+use judged::JUDGED;
+use refused::REFUSED;
 use emu_io::{List, MemFiles, MemSink, NoMemory, Text, Word};
 use std::alloc::Global;
 use std::test::Fail;
@@ -109,20 +114,6 @@ fn a_text_that_is_not_held_is_named(rt: HostRuntime) -> Result<(), Fail> {
 }
 
 #[test]
-fn a_fetch_that_fails_is_named(rt: HostRuntime) -> Result<(), Fail> {
-    for (failing, printed) in [
-        (0, b"read fault d.v\n".as_slice()),
-        (6, b"read fault m.json\n".as_slice()),
-    ] {
-        let mut files = inverter(rt.alloc(), &[failing])?;
-        let ended = end_of(rt.alloc(), CHECK, &mut files, &[])?;
-        assert_eq!(rt; ended.out.written(), printed);
-        assert_eq!(rt; ended.status, Status::ReadFault);
-    }
-    Ok(())
-}
-
-#[test]
 fn a_register_that_is_not_kept_is_rejected(rt: HostRuntime) -> Result<(), Fail> {
     let map =
         b"{\"chips\":[{\"memories\":[],\"nets\":[[\"net\",2],[\"net\",3]],\"registers\":[false]}],\"outputs\":[[0,1]],\"version\":1}\n";
@@ -134,11 +125,11 @@ fn a_register_that_is_not_kept_is_rejected(rt: HostRuntime) -> Result<(), Fail> 
 
 #[test]
 fn the_first_text_that_is_not_of_its_form_is_named(rt: HostRuntime) -> Result<(), Fail> {
-    let two_gates = b"module t(a,y); input a; output y; wire b; not(b,a); not(y,b); endmodule\n";
+    let and = b"module t(a,y); input a; output y; and(y,a,a); endmodule\n";
     for (name, bytes, printed) in [
         (
             b"d.v".as_slice(),
-            two_gates.as_slice(),
+            and.as_slice(),
             b"refused design NotYet\n".as_slice(),
         ),
         (b"g.json", b"{}", b"refused groups NotYet\n"),
@@ -184,6 +175,96 @@ fn faults_of_the_design_are_told_with_their_bytes(rt: HostRuntime) -> Result<(),
         assert_eq!(rt; ended.out.written(), printed);
         assert_eq!(rt; ended.status, Status::Refused);
     }
+    Ok(())
+}
+
+/// How a command ends that prints this.
+fn status_of(printed: &[u8]) -> Status {
+    if printed.starts_with(b"accepted") {
+        Status::Ok
+    } else if printed.starts_with(b"rejected") {
+        Status::Rejected
+    } else {
+        Status::Refused
+    }
+}
+
+/// What comes of the check of six texts.
+fn end_of_case(alloc: Global, texts: &[&'static [u8]; 6]) -> Result<Outcome, NoMemory> {
+    let mut files = inverter(alloc, &[])?;
+    hold(alloc, &mut files, b"d.v", texts[0])?;
+    hold(alloc, &mut files, b"g.json", texts[1])?;
+    hold(alloc, &mut files, b"b.json", texts[2])?;
+    hold(alloc, &mut files, b"n.v", texts[3])?;
+    hold(alloc, &mut files, b"s.json", texts[4])?;
+    hold(alloc, &mut files, b"m.json", texts[5])?;
+    end_of(alloc, CHECK, &mut files, &[])
+}
+
+#[test]
+fn cases_of_other_programs_end_as_told(rt: HostRuntime) -> Result<(), Fail> {
+    for (texts, printed) in JUDGED.iter().chain(REFUSED.iter()) {
+        let ended = end_of_case(rt.alloc(), texts)?;
+        assert_eq!(rt; ended.out.written(), *printed, "{}", texts[0].escape_ascii());
+        assert_eq!(rt; ended.status, status_of(printed));
+    }
+    Ok(())
+}
+
+#[test]
+fn a_circle_of_gates_is_told_by_its_names(rt: HostRuntime) -> Result<(), Fail> {
+    let design = b"module t(y); output y; wire x; not(x,y); not(y,x); endmodule\n";
+    let ended = end_with(rt.alloc(), b"d.v", design)?;
+    assert_eq!(rt; ended.out.written(), b"refused rank Cycle y x\n".as_slice());
+    assert_eq!(rt; ended.status, Status::Refused);
+    Ok(())
+}
+
+#[test]
+fn each_fetch_that_fails_is_named(rt: HostRuntime) -> Result<(), Fail> {
+    for (failing, printed) in [
+        (0, b"read fault d.v\n".as_slice()),
+        (1, b"read fault c.json\n"),
+        (2, b"read fault g.json\n"),
+        (3, b"read fault b.json\n"),
+        (4, b"read fault n.v\n"),
+        (5, b"read fault s.json\n"),
+        (6, b"read fault m.json\n"),
+    ] {
+        let mut files = inverter(rt.alloc(), &[failing])?;
+        let ended = end_of(rt.alloc(), CHECK, &mut files, &[])?;
+        assert_eq!(rt; ended.out.written(), printed);
+        assert_eq!(rt; ended.status, Status::ReadFault);
+    }
+    Ok(())
+}
+
+#[test]
+fn results_that_break_off_are_refused(rt: HostRuntime) -> Result<(), Fail> {
+    for (name, text) in [
+        (b"n.v".as_slice(), NETLIST),
+        (b"s.json", SCHEDULE),
+        (b"m.json", MAP),
+    ] {
+        for end in 0..text.len() {
+            let ended = end_with(rt.alloc(), name, &text[..end])?;
+            let whole = end + 1 == text.len();
+            let status = if whole { Status::Ok } else { Status::Refused };
+            assert_eq!(rt; ended.status, status, "{}", end);
+        }
+    }
+    Ok(())
+}
+
+#[test]
+fn a_design_beyond_its_limit_is_refused(rt: HostRuntime) -> Result<(), Fail> {
+    let mut spaces = Vec::new(rt.alloc());
+    spaces.resize(67_108_865, b' ')?;
+    let mut files = MemFiles::new(rt.alloc(), &[])?;
+    hold(rt.alloc(), &mut files, b"d.v", spaces.as_slice())?;
+    let ended = end_of(rt.alloc(), CHECK, &mut files, &[])?;
+    assert_eq!(rt; ended.out.written(), b"refused design TooLarge\n".as_slice());
+    assert_eq!(rt; ended.status, Status::Refused);
     Ok(())
 }
 

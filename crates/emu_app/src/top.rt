@@ -3,6 +3,7 @@
 ghost use Rattle.std.specs.Prelude.{◌≡◌, true, IfOk, length};
 ghost use Rattle.emu_app.specs.Answers.{CommandMeans, Ends, FoundMeans, WorkMeans};
 ghost use Rattle.emu_app.specs.Command.{IsNoCommand, Reads, is_built, name_of, text_count, words_of};
+ghost use Rattle.emu_app.specs.Complete.{Completes};
 ghost use Rattle.emu_app.specs.Fetching.{AreWithin, texts_of};
 ghost use Rattle.emu_app.specs.Outcomes.{IsOk, IsRejected};
 
@@ -10,6 +11,7 @@ use crate::answer::Answer;
 use crate::check::judge_texts;
 use crate::command::{Command, CommandNames, command_names};
 use crate::fetch::{Stop, fetch_texts};
+use crate::laws::refused_texts_stand_for_nothing;
 use crate::status::Status;
 use crate::what::What;
 use emu_io::{Files, List, NoMemory, Sink, StoreFault, Text, Word};
@@ -106,6 +108,9 @@ pub fn run<F: Files, O: Sink>(alloc: Global, words: &[Word], files: &mut F, out:
     // Status Usage: the words are those of no command.
     ensures usage { result ≡ Status.Usage → IsNoCommand words.now }
 
+    // Where all is in order and nothing failed, the command does its work, or there was no memory.
+    ensures completes { Completes (F.held files.old) words.now (F.read_faults files.old) (F.read_faults files.new) (O.faults out.old) (O.faults out.new) result }
+
     // By the status, what was found and what is written; each other status has its cause here too, so
     // that each comes exactly where its cause does, want of memory and failed puts aside.
     ensures ends { Ends (CommandMeans (F.held files.old) (F.read_faults files.old) (F.read_faults files.new) (F.blamed files.new) words.now) (O.written out.old) (O.written out.new) (O.faults out.old) (O.faults out.new) result }
@@ -114,5 +119,6 @@ pub fn run<F: Files, O: Sink>(alloc: Global, words: &[Word], files: &mut F, out:
     ensures held_same { F.held files.new ≡ F.held files.old }
     ensures stores_same { F.store_faults files.new ≡ F.store_faults files.old }
 {
+    refused_texts_stand_for_nothing();
     run_command(alloc, words, files, out)
 }

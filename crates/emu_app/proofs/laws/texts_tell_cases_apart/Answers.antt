@@ -1,5 +1,5 @@
 use Rattle.emu_app.proofs.OneCases.{one_case}
-use Rattle.emu_app.proofs.check.texts_tell_cases_apart.Goals as goal
+use Rattle.emu_app.proofs.laws.texts_tell_cases_apart.Goals as goal
 
 pub returns : goal.returns
 returns c =

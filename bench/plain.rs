@@ -1,0 +1,622 @@
+//! The same work as `emu check` on designs of `buf` and `not`, as plain Rust without proofs.
+//!
+//! It stands here to be compared with: what the proved program costs in time and memory. It reads the
+//! seven texts, makes tokens and a tree, flattens, reads netlist, schedule and map, and judges the twelve
+//! rules for this form. Compile it with `rustc -O`.
+
+use std::collections::HashMap;
+use std::convert::TryFrom;
+use std::process::exit;
+
+#[derive(Clone, Copy, PartialEq)]
+enum Kind {
+    Name,
+    Keyword(u32),
+    Number(u32),
+    Mark(u8),
+}
+
+#[derive(Clone, Copy)]
+struct Token {
+    kind: Kind,
+    start: u32,
+    end: u32,
+}
+
+const KEYWORDS: [&[u8]; 14] = [
+    b"module", b"endmodule", b"input", b"output", b"wire", b"assign", b"and", b"nand", b"or", b"nor",
+    b"xor", b"xnor", b"buf", b"not",
+];
+const MODULE: u32 = 0;
+const ENDMODULE: u32 = 1;
+const INPUT: u32 = 2;
+const OUTPUT: u32 = 3;
+const WIRE: u32 = 4;
+const BUF: u32 = 12;
+const NOT: u32 = 13;
+
+fn refuse(what: &str) -> ! {
+    println!("refused {what} NotYet");
+    exit(2)
+}
+
+fn is_name_byte(byte: u8) -> bool {
+    byte.is_ascii_alphanumeric() || byte == b'_' || byte == b'$'
+}
+
+/// The place after white space and comments.
+fn skip(text: &[u8], mut at: usize) -> Option<usize> {
+    loop {
+        match text.get(at) {
+            Some(b' ' | b'\t' | b'\n' | b'\r' | 12) => at += 1,
+            Some(b'/') if text.get(at + 1) == Some(&b'/') => {
+                at = text[at..].iter().position(|b| *b == b'\n').map_or(text.len(), |k| at + k);
+            }
+            Some(b'/') if text.get(at + 1) == Some(&b'*') => {
+                at = text[at + 2..].windows(2).position(|w| w == b"*/").map(|k| at + k + 4)?;
+            }
+            _ => return Some(at),
+        }
+    }
+}
+
+fn number(text: &[u8], at: usize) -> Option<(u32, usize)> {
+    let end = text[at..].iter().position(|b| !b.is_ascii_digit()).map_or(text.len(), |k| at + k);
+    let value = std::str::from_utf8(&text[at..end]).ok()?.parse().ok()?;
+    Some((value, end))
+}
+
+fn tokens(text: &[u8]) -> Option<Vec<Token>> {
+    let words: HashMap<&[u8], u32> = KEYWORDS.iter().zip(0..).map(|(w, k)| (*w, k)).collect();
+    let mut tokens = Vec::new();
+    let mut at = 0;
+    loop {
+        at = skip(text, at)?;
+        let Some(&byte) = text.get(at) else {
+            return Some(tokens);
+        };
+        let (kind, end) = if byte.is_ascii_alphabetic() || byte == b'_' {
+            let end = text[at..].iter().position(|b| !is_name_byte(*b)).map_or(text.len(), |k| at + k);
+            (words.get(&text[at..end]).map_or(Kind::Name, |k| Kind::Keyword(*k)), end)
+        } else if byte.is_ascii_digit() {
+            let (value, end) = number(text, at)?;
+            (Kind::Number(value), end)
+        } else if b"()[]{},;:=.".contains(&byte) {
+            (Kind::Mark(byte), at + 1)
+        } else {
+            return None;
+        };
+        tokens.push(Token { kind, start: at as u32, end: end as u32 });
+        at = end;
+    }
+}
+
+/// A cursor over tokens.
+struct Cursor<'t> {
+    text: &'t [u8],
+    tokens: &'t [Token],
+    at: usize,
+}
+
+impl<'t> Cursor<'t> {
+    fn peek(&self) -> Option<Kind> {
+        self.tokens.get(self.at).map(|t| t.kind)
+    }
+
+    fn take(&mut self, kind: Kind) -> Option<()> {
+        if self.peek()? == kind {
+            self.at += 1;
+            Some(())
+        } else {
+            None
+        }
+    }
+
+    fn name(&mut self) -> Option<u32> {
+        self.take(Kind::Name)?;
+        Some(self.at as u32 - 1)
+    }
+
+    fn bytes(&self, token: u32) -> &'t [u8] {
+        let token = self.tokens[token as usize];
+        &self.text[token.start as usize..token.end as usize]
+    }
+}
+
+enum Item {
+    Ports(bool, Vec<u32>),
+    Wires(Vec<u32>),
+    Gates(bool, Vec<Prim>),
+}
+
+struct Prim {
+    name: Option<u32>,
+    terminals: Vec<u32>,
+}
+
+struct Module {
+    name: u32,
+    ports: Vec<u32>,
+    items: Vec<Item>,
+}
+
+fn names(cursor: &mut Cursor, end: u8) -> Option<Vec<u32>> {
+    let mut names = vec![cursor.name()?];
+    while cursor.take(Kind::Mark(b',')).is_some() {
+        names.push(cursor.name()?);
+    }
+    cursor.take(Kind::Mark(end))?;
+    Some(names)
+}
+
+fn prims(cursor: &mut Cursor) -> Option<Vec<Prim>> {
+    let mut prims = Vec::new();
+    loop {
+        let name = cursor.name();
+        cursor.take(Kind::Mark(b'('))?;
+        prims.push(Prim { name, terminals: names(cursor, b')')? });
+        if cursor.take(Kind::Mark(b',')).is_none() {
+            cursor.take(Kind::Mark(b';'))?;
+            return Some(prims);
+        }
+    }
+}
+
+fn module(cursor: &mut Cursor) -> Option<Module> {
+    cursor.take(Kind::Keyword(MODULE))?;
+    let name = cursor.name()?;
+    let mut ports = Vec::new();
+    if cursor.take(Kind::Mark(b'(')).is_some() && cursor.take(Kind::Mark(b')')).is_none() {
+        ports = names(cursor, b')')?;
+    }
+    cursor.take(Kind::Mark(b';'))?;
+    let mut items = Vec::new();
+    loop {
+        let Kind::Keyword(word) = cursor.peek()? else {
+            return None;
+        };
+        cursor.at += 1;
+        match word {
+            INPUT | OUTPUT => items.push(Item::Ports(word == INPUT, names(cursor, b';')?)),
+            WIRE => items.push(Item::Wires(names(cursor, b';')?)),
+            BUF | NOT => items.push(Item::Gates(word == NOT, prims(cursor)?)),
+            ENDMODULE => return Some(Module { name, ports, items }),
+            _ => return None,
+        }
+    }
+}
+
+#[derive(Clone, Copy, PartialEq)]
+enum Driver {
+    Constant,
+    Input,
+    Gate(u32),
+}
+
+#[derive(Clone, Copy)]
+struct Gate {
+    inverts: bool,
+    input: u32,
+    output: u32,
+}
+
+struct Design {
+    drivers: Vec<Driver>,
+    gates: Vec<Gate>,
+    inputs: Vec<u32>,
+    outputs: Vec<u32>,
+}
+
+/// An order of gates in which each stands after those that it reads, given who drives a net.
+fn order(gates: &[Gate], driver: impl Fn(u32) -> Option<u32>) -> Option<Vec<u32>> {
+    let mut readers: Vec<Vec<u32>> = vec![Vec::new(); gates.len()];
+    let mut ready = Vec::new();
+    for (k, gate) in gates.iter().enumerate() {
+        match driver(gate.input) {
+            Some(from) => readers[from as usize].push(k as u32),
+            None => ready.push(k as u32),
+        }
+    }
+    let mut order = Vec::with_capacity(gates.len());
+    while let Some(k) = ready.pop() {
+        order.push(k);
+        ready.extend(&readers[k as usize]);
+    }
+    (order.len() == gates.len()).then_some(order)
+}
+
+fn flatten(cursor: &Cursor, module: &Module, top: &[u8]) -> Option<Design> {
+    if cursor.bytes(module.name) != top {
+        return None;
+    }
+    let mut nets: HashMap<&[u8], u32> = HashMap::new();
+    for port in &module.ports {
+        if nets.insert(cursor.bytes(*port), nets.len() as u32 + 2).is_some() {
+            return None;
+        }
+    }
+    let ports = nets.len();
+    let mut given: Vec<Option<bool>> = vec![None; ports];
+    let mut wired = vec![false; ports];
+    for item in &module.items {
+        match item {
+            Item::Ports(input, names) => {
+                for name in names {
+                    let port = *nets.get(cursor.bytes(*name))? as usize - 2;
+                    if port >= ports || given[port].replace(*input).is_some() {
+                        return None;
+                    }
+                }
+            }
+            Item::Wires(names) => {
+                for name in names {
+                    let next = nets.len() as u32 + 2;
+                    let net = *nets.entry(cursor.bytes(*name)).or_insert(next);
+                    let known = net as usize - 2 < ports;
+                    if net != next && (!known || std::mem::replace(&mut wired[net as usize - 2], true)) {
+                        return None;
+                    }
+                }
+            }
+            Item::Gates(..) => {}
+        }
+    }
+    let mut gates = Vec::new();
+    let mut own: HashMap<&[u8], ()> = HashMap::new();
+    for item in &module.items {
+        let Item::Gates(inverts, prims) = item else {
+            continue;
+        };
+        for prim in prims {
+            let [output, input] = prim.terminals[..] else {
+                return None;
+            };
+            let mut net = |token| {
+                let next = nets.len() as u32 + 2;
+                *nets.entry(cursor.bytes(token)).or_insert(next)
+            };
+            let output = net(output);
+            gates.push(Gate { inverts: *inverts, output, input: net(input) });
+            if let Some(name) = prim.name {
+                if own.insert(cursor.bytes(name), ()).is_some() {
+                    return None;
+                }
+            }
+        }
+    }
+    if own.keys().any(|name| nets.contains_key(name)) {
+        return None;
+    }
+    let mut drivers = vec![Driver::Constant; nets.len() + 2];
+    let (mut inputs, mut outputs) = (Vec::new(), Vec::new());
+    for (port, given) in given.iter().enumerate() {
+        let net = port as u32 + 2;
+        if (*given)? {
+            drivers[net as usize] = Driver::Input;
+            inputs.push(net);
+        } else {
+            outputs.push(net);
+        }
+    }
+    for (k, gate) in gates.iter().enumerate() {
+        if drivers[gate.output as usize] != Driver::Constant {
+            return None;
+        }
+        drivers[gate.output as usize] = Driver::Gate(k as u32);
+    }
+    let undriven = |net: &u32| drivers[*net as usize] == Driver::Constant;
+    if gates.iter().any(|g| undriven(&g.input)) || outputs.iter().any(undriven) || gates.len() > 200_000 || drivers.len() > 400_000 {
+        return None;
+    }
+    Some(Design { drivers, gates, inputs, outputs })
+}
+
+/// A JSON tree.
+enum Json {
+    Number(u64),
+    Text(String),
+    Bool(bool),
+    List(Vec<Json>),
+    Object(Vec<(String, Json)>),
+}
+
+impl Json {
+    fn get(&self, name: &str) -> Option<&Json> {
+        let Json::Object(members) = self else {
+            return None;
+        };
+        members.iter().rev().find(|m| m.0 == name).map(|m| &m.1)
+    }
+
+    fn list(&self) -> Option<&[Json]> {
+        match self {
+            Json::List(items) => Some(items),
+            _ => None,
+        }
+    }
+
+    fn word(&self) -> Option<u32> {
+        match self {
+            Json::Number(n) => u32::try_from(*n).ok(),
+            _ => None,
+        }
+    }
+}
+
+fn json_text(text: &[u8], at: &mut usize) -> Option<String> {
+    let start = *at + 1;
+    let end = start + text[start..].iter().position(|b| *b == b'"')?;
+    *at = end + 1;
+    String::from_utf8(text[start..end].to_vec()).ok()
+}
+
+fn json_list<T>(text: &[u8], at: &mut usize, end: u8, mut one: impl FnMut(&[u8], &mut usize) -> Option<T>) -> Option<Vec<T>> {
+    *at = skip(text, *at + 1)?;
+    let mut items = Vec::new();
+    if text.get(*at) == Some(&end) {
+        *at += 1;
+        return Some(items);
+    }
+    loop {
+        items.push(one(text, at)?);
+        *at = skip(text, *at)?;
+        let byte = *text.get(*at)?;
+        *at += 1;
+        if byte == end {
+            return Some(items);
+        }
+        if byte != b',' {
+            return None;
+        }
+    }
+}
+
+fn json(text: &[u8], at: &mut usize) -> Option<Json> {
+    *at = skip(text, *at)?;
+    match *text.get(*at)? {
+        b'[' => Some(Json::List(json_list(text, at, b']', json)?)),
+        b'{' => Some(Json::Object(json_list(text, at, b'}', |text, at| {
+            *at = skip(text, *at)?;
+            let name = json_text(text, at)?;
+            *at = skip(text, *at)? + 1;
+            Some((name, json(text, at)?))
+        })?)),
+        b'"' => Some(Json::Text(json_text(text, at)?)),
+        b't' | b'f' => {
+            let yes = text[*at] == b't';
+            *at += if yes { 4 } else { 5 };
+            Some(Json::Bool(yes))
+        }
+        _ => {
+            let end = *at + text[*at..].iter().position(|b| !b.is_ascii_digit())?;
+            let value = std::str::from_utf8(&text[*at..end]).ok()?.parse().ok()?;
+            *at = end;
+            Some(Json::Number(value))
+        }
+    }
+}
+
+struct Chip {
+    nets: u32,
+    gates: Vec<Gate>,
+    registers: Vec<u32>,
+}
+
+/// The number of a name such as n12.
+fn numbered(bytes: &[u8], letter: u8) -> Option<u32> {
+    let (first, digits) = bytes.split_first()?;
+    if *first != letter || digits.len() > 1 && digits[0] == b'0' {
+        return None;
+    }
+    number(digits, 0).filter(|n| n.1 == digits.len()).map(|n| n.0)
+}
+
+fn chip(cursor: &mut Cursor) -> Option<Chip> {
+    cursor.take(Kind::Keyword(MODULE))?;
+    let name = cursor.name()?;
+    (cursor.bytes(name) == b"chip0").then_some(())?;
+    cursor.take(Kind::Mark(b';'))?;
+    let mut chip = Chip { nets: 0, gates: Vec::new(), registers: Vec::new() };
+    let own = |cursor: &mut Cursor, letter, due: usize| {
+        let name = cursor.name()?;
+        (numbered(cursor.bytes(name), letter)? as usize == due).then_some(())
+    };
+    while cursor.take(Kind::Keyword(WIRE)).is_some() {
+        own(cursor, b'n', chip.nets as usize)?;
+        cursor.take(Kind::Mark(b';'))?;
+        chip.nets += 1;
+    }
+    let net = |cursor: &mut Cursor, nets| {
+        let name = cursor.name()?;
+        numbered(cursor.bytes(name), b'n').filter(|n| *n < nets)
+    };
+    while let Some(Kind::Keyword(word @ (BUF | NOT))) = cursor.peek() {
+        cursor.at += 1;
+        own(cursor, b'g', chip.gates.len())?;
+        cursor.take(Kind::Mark(b'('))?;
+        let output = net(cursor, chip.nets)?;
+        cursor.take(Kind::Mark(b','))?;
+        let input = net(cursor, chip.nets)?;
+        cursor.take(Kind::Mark(b')'))?;
+        cursor.take(Kind::Mark(b';'))?;
+        chip.gates.push(Gate { inverts: word == NOT, input, output });
+    }
+    while let Some(word) = cursor.name() {
+        (cursor.bytes(word) == b"EHOLD").then_some(())?;
+        own(cursor, b'r', chip.registers.len())?;
+        cursor.take(Kind::Mark(b'('))?;
+        chip.registers.push(net(cursor, chip.nets)?);
+        cursor.take(Kind::Mark(b')'))?;
+        cursor.take(Kind::Mark(b';'))?;
+    }
+    cursor.take(Kind::Keyword(ENDMODULE))?;
+    let mut count = vec![0u8; chip.nets as usize];
+    for net in chip.gates.iter().map(|g| g.output).chain(chip.registers.iter().copied()) {
+        count[net as usize] = count[net as usize].saturating_add(1);
+    }
+    (cursor.peek().is_none() && count.iter().all(|c| *c == 1)).then_some(chip)
+}
+
+struct Frame {
+    group: String,
+    slots: Vec<Vec<[u32; 3]>>,
+}
+
+fn action(tree: &Json) -> Option<[u32; 3]> {
+    match tree.list()? {
+        [Json::Text(word), chip, register, net] if word == "input" => Some([chip.word()?, register.word()?, net.word()?]),
+        _ => None,
+    }
+}
+
+fn schedule(tree: &Json) -> Option<Vec<Frame>> {
+    (tree.get("version")?.word()? == 1).then_some(())?;
+    let frame = |frame: &Json| {
+        let Json::Text(group) = frame.get("group")? else {
+            return None;
+        };
+        let slots = frame.get("slots")?.list()?.iter().map(|slot| slot.list()?.iter().map(action).collect()).collect::<Option<_>>()?;
+        Some(Frame { group: group.clone(), slots })
+    };
+    tree.get("frames")?.list()?.iter().map(frame).collect()
+}
+
+struct Map {
+    subjects: Vec<u32>,
+    kept: Vec<bool>,
+    outputs: Vec<u32>,
+}
+
+fn map(tree: &Json, chip: &Chip) -> Option<Map> {
+    (tree.get("version")?.word()? == 1).then_some(())?;
+    let [entry] = tree.get("chips")?.list()? else {
+        return None;
+    };
+    let subject = |tree: &Json| match tree.list()? {
+        [Json::Text(word), net] if word == "net" => net.word(),
+        _ => None,
+    };
+    let subjects: Vec<u32> = entry.get("nets")?.list()?.iter().map(subject).collect::<Option<_>>()?;
+    let keep = |tree: &Json| match tree {
+        Json::Bool(kept) => Some(*kept),
+        _ => None,
+    };
+    let kept: Vec<bool> = entry.get("registers")?.list()?.iter().map(keep).collect::<Option<_>>()?;
+    let output = |tree: &Json| match tree.list()? {
+        [c, net] if c.word()? == 0 => net.word().filter(|n| *n < chip.nets),
+        _ => None,
+    };
+    let outputs = tree.get("outputs")?.list()?.iter().map(output).collect::<Option<_>>()?;
+    let fits = subjects.len() == chip.nets as usize && kept.len() == chip.registers.len() && entry.get("memories")?.list()?.is_empty();
+    fits.then_some(Map { subjects, kept, outputs })
+}
+
+/// Whether the twelve rules hold, for one chip.
+fn judge(design: &Design, room: u64, slots: u32, chip: &Chip, frames: &[Frame], map: &Map) -> bool {
+    let driver = |net: u32| design.drivers.get(net as usize).copied();
+    let mut gate_of = vec![None; chip.nets as usize];
+    for (k, gate) in chip.gates.iter().enumerate() {
+        gate_of[gate.output as usize] = Some(k as u32);
+    }
+    let Some(order) = order(&chip.gates, |net| gate_of[net as usize]) else {
+        return false;
+    };
+    let copied = |gate: &&Gate| matches!(driver(map.subjects[gate.output as usize]), Some(Driver::Gate(_)));
+    if chip.gates.iter().filter(copied).count() as u64 > room {
+        return false;
+    }
+    let [frame] = frames else {
+        return false;
+    };
+    if frame.group != "*" || frame.slots.is_empty() || frame.slots.len() > slots as usize {
+        return false;
+    }
+    let mut used = vec![0; chip.registers.len()];
+    for (slot, actions) in frame.slots.iter().enumerate() {
+        for [c, register, net] in actions {
+            let fits = *c == 0 && (*register as usize) < used.len() && driver(*net) == Some(Driver::Input);
+            if !fits || std::mem::replace(&mut used[*register as usize], slot + 1) == slot + 1 || map.subjects[chip.registers[*register as usize] as usize] != *net {
+                return false;
+            }
+        }
+    }
+    for gate in &chip.gates {
+        let Some(Driver::Gate(k)) = driver(map.subjects[gate.output as usize]) else {
+            return false;
+        };
+        let original = design.gates[k as usize];
+        if original.inverts != gate.inverts || map.subjects[gate.input as usize] != original.input {
+            return false;
+        }
+    }
+    let mut keeps = vec![false; design.drivers.len()];
+    for (k, q) in chip.registers.iter().enumerate() {
+        let subject = map.subjects[*q as usize];
+        if driver(subject).is_none() {
+            return false;
+        }
+        if map.kept[k] {
+            keeps[subject as usize] = true;
+            if used[k] == 0 && driver(subject) != Some(Driver::Constant) {
+                return false;
+            }
+        }
+    }
+    let subjects = map.outputs.iter().map(|net| map.subjects[*net as usize]);
+    if !design.inputs.iter().all(|net| keeps[*net as usize]) || !subjects.eq(design.outputs.iter().copied()) {
+        return false;
+    }
+    let mut before = vec![false; chip.nets as usize];
+    for (k, q) in chip.registers.iter().enumerate() {
+        before[*q as usize] = map.kept[k];
+    }
+    for k in order {
+        let gate = chip.gates[k as usize];
+        before[gate.output as usize] = before[gate.input as usize];
+    }
+    map.outputs.iter().all(|net| before[*net as usize])
+}
+
+fn main() {
+    let words: Vec<String> = std::env::args().collect();
+    let [_, _, top, design, cells, groups, board, netlist, schedule_name, map_name] = &words[..] else {
+        println!("usage");
+        exit(1)
+    };
+    let texts: Vec<Vec<u8>> = [design, cells, groups, board, netlist, schedule_name, map_name]
+        .map(|name| std::fs::read(name).expect("a text is held"))
+        .into();
+    let Some(list) = tokens(&texts[0]) else { refuse("design") };
+    let mut cursor = Cursor { text: &texts[0], tokens: &list, at: 0 };
+    let Some(tree) = module(&mut cursor) else { refuse("design") };
+    let Some(design) = flatten(&cursor, &tree, top.as_bytes()) else { refuse("design") };
+    let drives = |net: u32| match design.drivers[net as usize] {
+        Driver::Gate(k) => Some(k),
+        _ => None,
+    };
+    if order(&design.gates, drives).is_none() {
+        refuse("design")
+    }
+    let tree = |text: &[u8], what| json(text, &mut 0).unwrap_or_else(|| refuse(what));
+    let board = tree(&texts[3], "board");
+    let slots = board.get("slots").and_then(Json::word).unwrap_or_else(|| refuse("board"));
+    let room = match board.get("chips").and_then(Json::list) {
+        Some([chip]) => match chip.get("room") {
+            Some(Json::Number(room)) => *room,
+            _ => refuse("board"),
+        },
+        _ => refuse("board"),
+    };
+    let Some(list) = tokens(&texts[4]) else { refuse("netlist") };
+    let Some(chip) = chip(&mut Cursor { text: &texts[4], tokens: &list, at: 0 }) else { refuse("netlist") };
+    let Some(frames) = schedule(&tree(&texts[5], "schedule")) else { refuse("schedule") };
+    let Some(map) = map(&tree(&texts[6], "map"), &chip) else { refuse("map") };
+    if !judge(&design, room, slots, &chip, &frames, &map) {
+        println!("rejected");
+        exit(3)
+    }
+    println!("accepted");
+    for frame in &frames {
+        println!("frame {} {}", frame.group, frame.slots.len());
+    }
+}

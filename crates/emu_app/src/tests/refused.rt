@@ -1,0 +1,336 @@
+//! Texts that are refused. Two programs that were written apart for the same rules gave the answers.
+
+use super::judged::Case;
+
+pub static REFUSED: [Case; 30] = [
+    (
+        [
+            b"module t; endmodule",
+            b"{\"groups\":[]}",
+            b"{\"version\":1,\"chips\":[{\"room\":3},{\"room\":21},{\"room\":21}],\"wires\":[{\"from\":2,\"to\":1},{\"from\":1,\"to\":0},{\"from\":0,\"to\":1},{\"from\":2,\"to\":0},{\"from\":2,\"to\":0},{\"from\":0,\"to\":2},{\"from\":1,\"to\":2}],\"slots\":64}",
+            b"module chip0;\nendmodule\n",
+            b"{\"frames\":[{\"group\":\"*\",\"slots\":[[],[]]}],\"version\":1}\n",
+            b"{\"chips\":[{\"memories\":[],\"nets\":[],\"registers\":[]}],\"outputs\":[],\"version\":1}\n",
+        ],
+        b"refused board NotYet\n",
+    ),
+    (
+        [
+            b"module t(y0,a,y1); output y1; input a; output y0; buf(y0,a); not g624(y1,a); endmodule",
+            b"{\"groups\":[{\"name\":\"g\",\"ports\":[\"a\"]}]}",
+            b"{\"version\":1,\"chips\":[{\"room\":2}],\"wires\":[],\"slots\":2}",
+            b"module chip0;\nwire n0;\nwire n1;\nwire n2;\nwire n3;\nbuf g0 (n0, n3);\nnot g1 (n2, n1);\nEHOLD r0 (n1);\nEHOLD r1 (n3);\nendmodule",
+            b"{\"frames\":[{\"group\":\"*\",\"slots\":[[],[[\"input\",0,0,3],[\"input\",0,1,3]]]}],\"version\":1}\n",
+            b"{\"chips\":[{\"memories\":[],\"nets\":[[\"net\",2],[\"net\",3],[\"net\",4],[\"net\",3]],\"registers\":[true,true]}],\"outputs\":[[0,0],[0,2]],\"version\":1}\n",
+        ],
+        b"refused groups NotYet\n",
+    ),
+    (
+        [
+            b"module t(a,y0);\nbuf(y0,a),(n_1,y0);\nnot(w4,w3);\nnot(w3,x$2);\nbuf(x$2,y0);\nwire w3;\noutput y0;\ninput a;\nendmodule",
+            b"{\"groups\":[]}",
+            b"\n{\"version\" : 1,\"wi.res\"\t:\r\n [] ,\"chips\"\t:[{\n\"room\":14\n} ]\t,\n\"slots\"\t:\n6 }\r\n ",
+            b"module chip0; wire n0; wire n1; wire n2; wire n3; wive n4; wire n5; buf g0 (n1, n0); buf g1 (n2, n1); not g2 (n3, n4); not g3 (n4, n5); buf g4 (n5, n1); EHOLD r0 (n0); endmodule\n",
+            b"{\"frames\":[{\"group\":\"*\",\"slots\":[[],[],[[\"input\",0,0,2]]]}],\"version\":1}\n",
+            b"{\"chips\":[{\"memories\":[],\"nets\":[[\"net\",2],[\"net\",3],[\"net\",5],[\"net\",6],[\"net\",4],[\"net\",7]],\"registers\":[true]}],\"outputs\":[[0,1]],\"version\":1}\n",
+        ],
+        b"refused board NotYet\n",
+    ),
+    (
+        [
+            b"module t(b,a,y1,y0); not g2513(x$3,y1); not g7770(y1,a); buf(y0,a); buf g67(n_4,y1); buf(x$2,y1); input b; wire x$3,n_4; output y0,y1; input a; endmodule",
+            b"{\"groups\":[]}",
+            b"{\"version\":1,\"chips\":[{\"room\":5}],\"wires\":[{\"from\":0,\"to\":1,\"latency\":\"1\"}],\"slots\":8}",
+            b"module chip0; wire n0; wire n1; wire n2; wire n3; wire n4; wire n5; wire n6; wire n7; not g0 (n2, n3); not g1 (n3, n1); buf g2 (n4, n1); buf g3 (n5, n3); buf g4 (n6, n3); not g5 (n7, n3); EHOLD r0 (n0); EHOLD r1 (n1); endmodule",
+            b"{\"frames\":[{\"group\":\"*\",\"slots\":[[[\"input\",0,1,3]],[[\"input\",0,0,2]]]}],\"version\":1}\n",
+            b"{\"chips\":[{\"memories\":[],\"nets\":[[\"net\",2],[\"net\",3],[\"net\",6],[\"net\",4],[\"net\",5],[\"net\",7],[\"net\",8],[\"net\",6]],\"registers\":[true,true]}],\"outputs\":[[0,3],[0,4]],\"version\":1}\n",
+        ],
+        b"refused board NotYet\n",
+    ),
+    (
+        [
+            b"module t(q0,a); output q0; input a; not(q0,a); endmodule",
+            b"{\"groups\":[], \"\" : []}",
+            b"{\"wires\":[],\"version\":1,\"chips\":[],\"slots\":6}",
+            b"module chip0;\nwire n0;\nwire n1;\nnot g0 (n1, n0);\nEHOLD r0 (n0);\nendmodule\n",
+            b"{\"frames\":[{\"group\":\"*\",\"slots\":[[[\"input\",0,0,3]],[],[]]}],\"version\":1}\n",
+            b"{\"chips\":[{\"memories\":[],\"nets\":[[\"net\",3],[\"net\",2]],\"registers\":[true]}],\"outputs\":[[0,1]],\"version\":1}\n",
+        ],
+        b"refused board NotYet\n",
+    ),
+    (
+        [
+            b"module t(a,y0); input a; output y0; not(y0,a); endmodule",
+            b"{\"groups\":[]}",
+            b"{\"version\":1,ion\":1,\"chips\":[{\"room\":]2}],\"wires\":[],\"slots\":2}",
+            b"module chip0; wire n0; wire n1; not g0 (n1, n0); EHOLD r0 (n0); endmodule\n",
+            b"{\"frames\":[{\"group\":\"*\",\"slots\":[[[\"input\",0,0,2]],[]]}],\"version\":1}\n",
+            b"{\"chips\":[{\"memories\":[],\"nets\":[[\"net\",2],[\"net\",3]],\"registers\":[true]}],\"outputs\":[[0,1]],\"version\":1}\n",
+        ],
+        b"refused board NotYet\n",
+    ),
+    (
+        [
+            b"module t(b,a,y0);\nnot g347(y0,a);\nbuf(x$1,b);\nnot(x;$2,b);\nwire x$2;\noutput y0;\nwire x$1;\ninput a;\ninput b;\nendmo\x0bule",
+            b"\t{\"groups\"\r\n :\r\n [] } ",
+            b"{\"version\":1,\"chips\":[{\"room\":3}],\"wires\":[],\"slots\":1}",
+            b"module chip0;\nwire n0;\nwire n1;\nwire n2;\nwire n3;\nwire n4;\nnot g0 (n2, n1);\nbuf g1 (n3, n0);\nnot g2 (n4, n0);\nEHOLD r0 (n0);\nEHOLD r1 (n1);\nendmodule\n",
+            b"{\"fra",
+            b"{\"chips\":[{\"memories\":[],\"nets\":[[\"net\",2],[\"net\",3],[\"net\",4],[\"net\",6],[\"net\",5]],\"registers\":[true,true]}],\"outputs\":[[0,2]],\"version\":1}\n",
+        ],
+        b"refused design BadByte 52\n",
+    ),
+    (
+        [
+            b"module t(y0,y1,a); output y0; outp't y1; wire w2; input a; buf(yb,a); not(y1,y0); 0uf(w2,a); endmodule",
+            b"{\"groups\":[]}",
+            b"{\"version\":1,\"chips\":[{\"room\":4}],\"wires\":[],\"slots\":4}",
+            b"module chip0;\nwire n0;\nwire n1;\nwire n2;\nwire n3;\nnot g0 (n2, n1);\nbuf g1 (n3, n0);\nbuf g2 (n1, n0);\nEHOLD r0 (n0);\nendmodule\n",
+            b"{\"frames\":[{\"group\":\"*\",\"slots\":[[[\"input\",0,0,4]]]}],\"version\":1}\n",
+            b"{\"chips\":[{\"memories\":[],\"nets\":[[\"net\",4],[\"net\",2],[\"net\",3],[\"net\",5]],\"registers\":[true]}],\"outputs\":[[0,1],[0,2]],\"version\":1}\n",
+        ],
+        b"refused design BadNumber 34\n",
+    ),
+    (
+        [
+            b"module t; wire spare`; endmodule",
+            b"\r\n {\t\"groups\":[]\t}\t",
+            b"\n{\n\"chips\":[\t{\t\"room\"\t:0}] , \"version\" :1 , \"wires\":\r\n [] ,\t\"slots\":2\t}\t",
+            b"module chip0;\nendmodule\n",
+            b"{\"frames\":[{\"group\":\"*\",\"slots\":[[],[]]}],\"version\":1}\n",
+            b"{\"chips\":[{\"memories\":[],\"nets\":[],\"registers\":[]}],\"outputs\":[],\"version\":1}\n",
+        ],
+        b"refused design Directive 20\n",
+    ),
+    (
+        [
+            b"module t(b,c,y0,a);\nin\nu c;\ninput a;\noutput y0;pinpUt b;\nnot(y0,b);\nendmodule",
+            b"{ \"groups\":\r\n []\n}\r\n ",
+            b"{\"ver,ion\":1,\"ch:ips\":[{\"room\":2}]s\"wires\":[],\"slots\":\"slots\":1}",
+            b"module chip0; wire n0; wire n1; wire n2; wire n3; not g0 (n3, n0); EHOLD r0 (n0); EHOLD r1 (n1); EHOLD r2 (n2); endmodule\n",
+            b"{\"frames\":[{\"group\":\"*\",\"slots\":[[[\"input\",0,0,2],[\"input\",0,1,3],[\"input\",0,2,5]]]}],\"version\":1}\n",
+            b"{\"chips\":[{\"memories\":[],\"nets\":[[\"net\",2],[\"net\",3],[\"net\",5],[\"net\",4]],\"registers\":[true,true,true]}],\"outputs\":[[0,3]],\"version\":1}\n",
+        ],
+        b"refused design Expected 25\n",
+    ),
+    (
+        [
+            b"module tsupply0;\nendmodule",
+            b"{\"groups\":[]}",
+            b"{\"version\":1,\"chips\":[{\"room\":0}],\"wires\":[],\"slots\":5}",
+            b"module chip0; endmodule\n",
+            b"{\"frames\":[{\"group\":\"*\",\"slots\":[[],[]]}],\"version\":1}\n",
+            b"{\"chips\":[{\"memories\":[],\"nets\":[],\"registers\":[]}],\"outputs\":[],\"version\":1}\n",
+        ],
+        b"refused design NotYet\n",
+    ),
+    (
+        [
+            b"module t(q0,alq2); output q2; wire x$3,n_4; output q0; wire x$1; input a; buf(q0,a); buf(x$1,a),(q2,q0); not g7542(x$3,a); buf(n_4,q2); endmodule",
+            b"{\"groups\":[]}",
+            b"{\"version\":1,\"chips\":[{\"room\":5}],\"wires\":[],\"slots\":1}",
+            b"module chip0;\nwire n0;\nwire n1;\nwire n2;\nwire n3;\nwire n4;\nwire n5;\nbuf g0 (n1, n0);\nbuf g1 (n2, n0);\nbuf g2 (n3, n1);\nnot g3 (n4, n0);\nbuf g4 (n5, n3);\nEHOLD r0 (n0);\nendmodule\n",
+            b"{\"frames\":[{\"group\":\"*\",\"slots\":[[[\"input\",0,0,3]]]}],\"version\":1}\n",
+            b"{\"chips\":[{\"memories\":[],\"nets\":[[\"net\",3],[\"net\",2],[\"net\",7],[\"net\",4],[\"net\",5],[\"net\",6]],\"registers\":[true]}],\"outputs\":[[0,1],[0,3]],\"version\":1}\n",
+        ],
+        b"refused design NotYet\n",
+    ),
+    (
+        [
+            b"module t(a,y2,y1,y0);\noutput y1,y2;\ninput a;\noutput y0;\nbuf(y0,a),(y1,a), g3556(y2,a);\nendmodule",
+            b"{\"roup0\":[]}",
+            b"{\"version\":1,\"wires\":[],\"slots\":3,\"chips\":[{\"room\":4}]}",
+            b"module chip0;\nwire n0;\nwire n1;\n{wire n2;\nwire n3;\nbuf g0 (n1, n0);\nbuf g1 (n2, n0);\nbuf g2 (n3, n0);\nEHOLD r0 (n0);\nendmodule\n",
+            b"{\"frames\":[{\"group\":\"*\",\"slots\":[[],[],[[\"input\",0,0,2]]]}],\"version\":1}\n",
+            b"{\"chips\":[{\"memories\":[],\"nets\":[[\"net\",2],[\"net\",4],[\"net\",5],[\"net\",3]],\"registers\":[true]}],\"outputs\":[[0,3],[0,1],[0,2]],\"version\":1}\n",
+        ],
+        b"refused groups NotYet\n",
+    ),
+    (
+        [
+            b"module t; endmodule",
+            b"{\"groups\":[{\"name\":\"g\",\"ports\":[\"a\"]}]}",
+            b"{\"chips\":[{\"room\":0}],\"version\":1,\"slots\":4,\"wires\":[]}",
+            b"module chip0; endmodule",
+            b"{\"frames\":[{\"group\":\"*\",\"slots\":[[]]}],\"version\":1}\n",
+            b"{\"chips\":[{\"memories\":[],\"nets\":[],\"registers\":[]}],\"outputs\":[],\"version\":1}\n",
+        ],
+        b"refused groups NotYet\n",
+    ),
+    (
+        [
+            b"module t(y0,a); output y0; input a; buf(y0,a); endmodule",
+            b"{\"g",
+            b"{\"chips\":[{\"room\":1}],\"version\":1,\"wires\":[],\"slots\":3}",
+            b"module chip0;\nwire n0;\nwire n1;\nbuf g0 (n1, n0);\nEHOLD r0 (n0);\nendmndule\n",
+            b"{\"frames\":[{\"group\":\"*\",\"slots\":[[],[[\"input\",0,0,3]],[]]}],\"version\":1}\n",
+            b"{\"chips\":[{\"memories\":[],\"nets\":[[\"net\",3],[\"net\",2]],\"registers\":[true]}],\"outputs\":[[0,1]],\"version\":1}\n",
+        ],
+        b"refused groups NotYet\n",
+    ),
+    (
+        [
+            b"module t(q0,a);\noutput q0;\ninput a;\nnot g1725(q0,a);\nendmodule",
+            b"{\"groups\":[]}",
+            b"{\"version\":1,\"chips\":[{\"room\":1}],\"wires\":[],\"slots\":4}",
+            b"module chip0;\nwire n0;\nwire n1;\nnot g0 (n1, n0);\nEHOLD r0 (n0);\nendmodule",
+            b"{\"frames\":[{\"group\":\"*\",\"slots\":[[[\"input\",0,0,3]]]}],\"version\":1}\n",
+            b"{\"chips\":[{\"memories\":[],\"nets\":[[\"net\",3],{\"memories\":[],\"nets\":[0,[\"net\",2]],\"registers\":[true]}],\"registers\":[true]}],\"outputs\":[[0,1]],\"version\":1}",
+        ],
+        b"refused map NotYet\n",
+    ),
+    (
+        [
+            b"module t; endmodule",
+            b"\r\n {\"groups\"\r \n :\r\n []\t}",
+            b"\n{\t\"wires\"\n:[],\n\"slots\":\n4,\"chips\" :\n[\t{ \"room\"\r\n : 0,\"\":[[1\r\n ]\n]}] ,\r\n \"version\": 1}",
+            b"module chip0; endmodule\n",
+            b"{\"frames\":[{\"group\":\"*\",\"slots\":[[]]}],\"version\":1}\n",
+            b"{\"chips\":[{\"memories\":[],\"nets\":e],\"registers\":[]}],\"ou:[],\"v[rsion\"{:1}\n",
+        ],
+        b"refused map NotYet\n",
+    ),
+    (
+        [
+            b"module t(a,q0); input a; wire x$1; output q0; buf(q0,a),(x$1,q0); endmodule",
+            b"{\"groups\":[]}",
+            b"{\"version\":1,\"chips\":[{\"room\":3}],\"wires\":[],\"slots\":1}",
+            b"module chip0; wire n0; wire n1; wire n2; buf g0 (n1, n0); buf g1 (n2, n1); EHOLD r0 (n0); endmodule",
+            b"{\"frames\":[{\"group\":\"*\",\"slots\":[[[\"input\",0,0,2]]]}],\"version\":1}\n",
+            b"{\"chips\":[{\"memories\":[],\"nets\":[[\"net\",2],[\"net\",3],[\"net\",4]],\"registers\":[true]}],\"outputs\":[[0,1]],\"version\":[1]}",
+        ],
+        b"refused map NotYet\n",
+    ),
+    (
+        [
+            b"module t(a,y0);\ninput a;\noutput y0;\nwire n_2;\nnot(y0,a);\nnot(x$1,y0);\nbuf(n_2,y0);\nendmodule",
+            b"{\"groups\":[]}\t",
+            b"{\"version\":1,\"slots\":1,\"chips\":[{\"room\":5}],\"wires\":[]}",
+            b"module chi0;\nwire n0;\nwire n1;\nwire n2;\nwire n3;\nwire n4;\nnot g0\xcd(n1, n0);\nnot g1 (n2, n1);\nbuf g2 (n3, n1);\nnot g3 (n4, n1);\nED r0 (n0);\nendmodule\n",
+            b"{\"frames\":[{\"group\":\"*\",\"slots\":[[[\"input\",0,0,0,2]0,2]]]}],\"version}\n",
+            b"{\"chips\":[{\"memories\":[],\"nets\":[[\"net\",2],[\"net\",3],[\"net\",5],[\"net\",4],[\"net\",5]],\"registers\":[true]}],\"outputs\":[[0,1]],\"version\":1}\n",
+        ],
+        b"refused netlist NotYet\n",
+    ),
+    (
+        [
+            b"module t(b,y0,a,c); wire x$1,n_2; wire x$4,spare; output y0; input a,b,c; buf(y0,a), g3488(x$1,c); buf g6735(x$3,n_2),(x$4,n_2); not g7334(n_2,c); endmodule",
+            b"{\"groups\":[]}",
+            b"{\"chips\":[{\"room\":5}],\"wires\":[],\"version\":1,\"slots\":3}",
+            b"module chip0;\nwire n0;\nwire n1;\nwire n2;\nwire n3;\nwire n4;\nwire n5;\nwire n6;\nwire n7;\nnot g0 (n4, n2);\nbuf `defineg1 (n6, n7);\nbuf g2 (n1, n2);\nbuf g3 (n0, n4);\nbuf g4 (n5, n4);\nEHOLD r0 (n3);\nEHOLD r1 (n2);\nEHOLD r2 (n7);\nendmodule\n",
+            b"{\"frames\":[{\"group\":\"*\",\"slots\":[[[\"input\",0,0,2],[\"input\",0,2,4]],[[\"input\",0,0,2],[\"input\",0,1,5]],[]]}],\"version\":1}\n",
+            b"{\"chips\":[{\"memories\":[],\"nets\":[[\"net\",8],[\"net\",6],[\"net\",5],[\"net\",2],[\"net\",7],[\"net\",10],[\"net\",3],[\"net\",4]],\"registers\":[true,true,true]}],\"outputs\":[[0,6]],\"version\":1}\n",
+        ],
+        b"refused netlist NotYet\n",
+    ),
+    (
+        [
+            b"module t(y0,a);\nwire n_1;\noutput y0;\ninput a;\nnot(y0,a),(n_1,y0);\nendmodule",
+            b"{ \"groups\"\n:\t[]\n}",
+            b"{\"version\":1,\"chips\":[{\"room\":3}],\"wires\":[],\"slots\":1}",
+            b"module chip0; wire n0; wire n1; wire n2; not g0 (n0, n2); not g1 (n1, n0); EHOLD r0 (); endmodule",
+            b"{\"frames\":[{\"group\":\"*\",\"slots\":[[[\"input\",0,0,3]]]}],\"version\":1}\n",
+            b"{\"chips\":[{\"memories\":[],\"nets\":[[\"net\",2],[\"net\",4],[\"net\",3]],\"registers\":[true]}],\"outputs\":[[0,0]],\"version\":1}\n",
+        ],
+        b"refused netlist NotYet\n",
+    ),
+    (
+        [
+            b"module t; endmodule",
+            b"{\"groups\":[]}",
+            b"\r\n {\n\"ve\\u0072\\u0073\\u0069o\\u006e\"\r\n :1 ,\n\"chips\"\r\n :[\r\n {\"room\":\n1}\r\n ],\"slots\"\t:\n3\t, \"\\u0077\\u0069re\\u0073\": [] ,\r\n \"x\"\r\n :\n[\r\n [1]]\r\n }",
+            b"module ;\n4'hzendmodule\n",
+            b"{\"frames\":[{\"group\":\"*\",\"slots\":[[],[],[]]}],\"version\":1}\n",
+            b"{\"chips\":[{\"memories\":[],\"nets\":[],\"registers\":[]}],\"outputs\":[],\"version\":1}\n",
+        ],
+        b"refused netlist NotYet\n",
+    ),
+    (
+        [
+            b"module t(a,y0);\nwire w1;\ninput a;\noutput y0;\nnot(y0,y0 );\nbuf(w1,a);\nendmodule",
+            b"{\"groups\":[]}",
+            b"{\"version\":1,\"chips\":[{\"room\":11}],\"wires\":[],\"slots\":1}",
+            b"module chip0;\nwire n0;\nwire n1;\nwire n2;\nnot g0 (n0, n2);\nbuf g1 (n1, n2);\nEHOLD r0 (n2);\nendmodule",
+            b"{\"frames\":[{\"group\":\"*\",\"slots\":[[[\"input\",0,0,2]]]}],\"version\":1}\n",
+            b"{\"chips\":[{\"memories\":[],\"nets\":[[\"net\",3],[\"net\",4],[\"net\",2]],\"registers\":[true]}],\"outputs\":[[0,0]],\"version\":1}\n",
+        ],
+        b"refused rank Cycle y0\n",
+    ),
+    (
+        [
+            b"module t(q4,y0,y1,y3,a); output y1,y3,q4; input a; output y0; not(q4,y0); not(y0,a); buf g7982(y1,a); buf(x$2,a),(y3,a); endmodule",
+            b" {\n\"groups\"\t:\n[]}\r\n ",
+            b"{\r\n \"version\":\n1,\t\"slots\"\n:1,\"chips\"\r\n :\n[{\"room\":6\n}\r\n ]\t,\"wires\":[]\n,\r\n \"\"\r\n :null\t} ",
+            b"module chip0; wire n0; wire n1; wire n2; wire n3; wire n4; wire n5; buf g0 (n0, n4); buf g1 (n1, n4); not g2 (n2, n3); not g3 (n3, n4); buf g4 (n5, n4); EHOLD r0 (n4); endmodule",
+            b"{\"frames]\":[{\"group\":\"*\",\"slotn\",0,0,6]]]}],\"version\":1}\n",
+            b"{\"chips\":[{\"memories\":[],\"nets\":[",
+        ],
+        b"refused schedule NotYet\n",
+    ),
+    (
+        [
+            b"module t; wire spare; endmodule",
+            b"{\t\"groups\" : []\n}",
+            b"{\"version\":1,\"chips\":[{\"room\":0}],\"wires\":[],\"slots\":2}",
+            b"module chip0; endmodule\n",
+            b"{\"frames\":[{\"group\":18446744073709551615,\"slots\":[[],[]]}],\"version\":1}",
+            b"{\"chips\":[{\"memories\":[],\"nets\":[],\"registers\":[]}],\"outputs\":[],\"version\":1}\n",
+        ],
+        b"refused schedule NotYet\n",
+    ),
+    (
+        [
+            b"module t(y1,y0,a);\ninput a;\noutput y0,y1;\nnot(y0,a);\nnot g8322(w2,a);\nbuf g191(y1,a);\nendmodule",
+            b"{\"groups\":[]}",
+            b"{\"chips\":[{\"room\":3}],\"version\":1,\"slots\":5,\"wires\":[]}",
+            b"module chip0;\nwire n0;\nwire n1;\nwire n2;\nwire n3;\nnot g0 (n1, n0);\nbuf g1 (n3, n0);\nnot g2 (n2, n0);\nEHOLD r0 (n0);\nendmodule\n",
+            b"{\"frames\":[{\"group\":\"*\",\"slots\":[[],[[\"input\",0,0,4]]]}],\"versiion\":1}\n",
+            b"{\"chips\":[{\"memories\":[],\"nets\":[[\"net\",4],[\"net\",3],[\"net\",5],[\"net\",2]],\"registers\":[true]},,\"outputs\":[[0,3],[0,1]]]\"version\":1}\n",
+        ],
+        b"refused schedule NotYet\n",
+    ),
+    (
+        [
+            b"module t; endmodule",
+            b"{\"groups\":[]}",
+            b"{\"version\":1,\"chips\":[{\"room\":6},{\"room\":21},{\"room\":6}],\"wires\":[{\"from\":1,\"to\":2},{\"from\":2,\"to\":1},{\"from\":2,\"to\":1},{\"from\":1,\"to\":0},{\"from\":0,\"to\":2},{\"from\":0,\"to\":1},{\"from\":2,\"to\":0}],\"slots\":65535}",
+            b"module chip0;\nendmodule\n",
+            b"{\"frames\":[{\"group\":\"*\",\"slots\":[[],[],[]]}],\"version\":1}\n",
+            b"{\"chips\":[{\"memories\":[],\"nets\":[],\"registers\":[]}],\"outputs\":[],\"version\":1}\n",
+        ],
+        b"refused board NotYet\n",
+    ),
+    (
+        [
+            b"module t;\nendmodule",
+            b"{\"groups\":[]}",
+            b"{ \"chips\"\n:[{\r\n \"room\":\t3 }\r\n ,{\"room\":4 }\r\n ,\r\n { \"room\"\r\n :4} ], \"version\":\n1, \"wires\" :[{\"from\" :1\t,\"to\":0\r\n }\n,{\"from\"\t:\r\n 2,\"to\"\t:\r\n 0},{ \"to\":2\n,\r\n \"from\":\t1}, {\n\"to\":1,\t\"from\"\t:\r\n 0},{\n\"to\" :\t2 ,\"from\"\r\n :\r\n 1},{\"from\":2\t,\n\"to\"\n:1\t}]\n,\t\"slots\":64\r\n } ",
+            b"module chip0;\nendmodule\n",
+            b"{\"frames\":[{\"group\":\"*\",\"slots\":[[]]}],\"version\":1}\n",
+            b"{\"chips\":[{\"memories\":[],\"nets\":[],\"registers\":[]}],\"outputs\":[],\"version\":1}\n",
+        ],
+        b"refused board NotYet\n",
+    ),
+    (
+        [
+            b"module t; wire spare; endmodule",
+            b"{\"groups\":[]}",
+            b"{\"slots\":64,\"version\":2,\"wires\":[{\"latency\":1,\"to\":1,\"from\":0},{\"from\":1,\"latency\":3,\"to\":0},{\"to\":0,\"from\":1,\"latency\":1}],\"chips\":[{\"room\":4},{\"room\":7}]}",
+            b"module chip0; endmodule\n",
+            b"{\"frames\":[{\"group\":\"*\",\"slots\":[[]]}],\"version\":1}\n",
+            b"{\"chips\":[{\"memories\":[],\"nets\":[],\"registers\":[]}],\"outputs\":[],\"version\":1}\n",
+        ],
+        b"refused board NotYet\n",
+    ),
+    (
+        [
+            b"module t(a,y0); input a; output y0; buf(y0,a); endmodule",
+            b"{\"groups\":[{\"name\":\"g\",\"ports\":[\"a\"]}]}",
+            b"{\"version\":1,\"chips\":[{\"room\":1}],\"wires\":[],\"slots\":3}",
+            b"module chip0;\nwire n0;\nwire n1;\nwire n2;\nbuf g0 (n1, n0);\nEHOLD r0 (n0);\nEHOLD r1 (n2);\nendmodule",
+            b"{\"frames\":[{\"group\":\"*\",\"slots\":[[],[[\"input\",0,0,2]],[[\"input\",0,1,2]]]}],\"version\":1}\n",
+            b"{\"chips\":[{\"memories\":[],\"nets\":[[\"net\",2],[\"net\",3],[\"net\",2]],\"registers\":[true,true]}],\"outputs\":[[0,1]],\"version\":1}\n",
+        ],
+        b"refused groups NotYet\n",
+    ),
+];
