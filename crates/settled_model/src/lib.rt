@@ -1,8 +1,8 @@
 //! The original design's opened valuation and its events.
 //!
 //! `Settled::open` is the opened valuation of a ranked design and an opening, and each `event` goes to
-//! the one valuation after. So after any list of events `value` is that of the one history. An event
-//! goes once through the nodes in order of rank, takes no memory, and evaluates no element twice.
+//! the one valuation after. So after any list of events `value` and `word` are those of the one history.
+//! An event goes once through the nodes in order of rank, takes no memory, and evaluates no element twice.
 #![tactic(auto)]
 
 mod elements;
