@@ -1,0 +1,6 @@
+pub mod Standing
+pub mod Values
+pub mod Tables
+pub mod Orders
+pub mod Takes
+pub mod Loading
