@@ -6,3 +6,4 @@ pub mod Chips
 pub mod Taking
 pub mod Steps
 pub mod Loads
+pub mod Examples

@@ -4,3 +4,4 @@ pub mod Tables
 pub mod Orders
 pub mod Takes
 pub mod Loading
+pub mod Example

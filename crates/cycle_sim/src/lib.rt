@@ -14,3 +14,6 @@ mod taken;
 
 pub use loaded::Loaded;
 pub use machine::Machine;
+
+#[cfg(test)]
+mod tests;

@@ -54,6 +54,15 @@ impl Loaded {
         Ok(Loaded { held, outside })
     }
 
+    /// What is loaded of the two tables.
+    #[cfg(test)]
+    pub(crate) fn from_tables(held: Vec<List<bool>>, outside: Vec<bool>) -> Loaded
+        ensures held { result.held ≡ held.items }
+        ensures outside { result.outside ≡ outside.items }
+    {
+        Loaded { held, outside }
+    }
+
     /// The two tables.
     pub(crate) fn into_tables(self) -> (Vec<List<bool>>, Vec<bool>)
         ensures held { result.0.items ≡ self.held }
