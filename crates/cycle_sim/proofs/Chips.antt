@@ -1,10 +1,9 @@
 -- The tables of all chips.
-use Rattle.std.proofs.Common.{◌≡◌, ◌<◌, ◌≤◌, ◌+◌, ℕ, Bool, true, false, List, [], ◌∷◌, ◌++◌, take, set, get_or, length, refl, sym, ap, subst, ◌∙◌, inl, inr, arith}
-use Rattle.std.specs.Prelude.{◌⊎◌, Option, Some, None, slice_get, unwrap_or}
+use Rattle.std.proofs.Common.{◌≡◌, ◌<◌, ◌≤◌, ◌+◌, ℕ, Bool, List, [], ◌∷◌, ◌++◌, take, set, get_or, length, refl, sym, ap, subst, ◌∙◌, inl, inr, arith}
+use Rattle.std.specs.Prelude.{◌⊎◌, Some, slice_get, unwrap_or}
 use Rattle.std.proofs.lemmas.Bool.{cases_lt}
 use Rattle.std.proofs.lemmas.List.{length-set, take_more, take_more_set}
 use Rattle.std.proofs.lemmas.Option.{none-some, slice_get_past, same_Some, slice_get_within, slice_get-get_or, slice_get_read, get_or_from_slice_get, unwrap_or-slice_get}
-use Rattle.id_arena.specs.declared.wire.Wire.{Wire}
 use Rattle.graph_rank.specs.Ranks.{Ranking}
 use Rattle.emu_machine.specs.declared.netlist.Chip.{Chip}
 use Rattle.emu_machine.specs.declared.netlist.EmuRegister.{EmuRegister}
@@ -13,7 +12,7 @@ use Rattle.emu_machine.specs.Netlist.{no_chip, chip_at}
 use Rattle.emu_machine.specs.State.{net_value}
 use Rattle.cycle_sim.specs.Standing.{CanRun, RegisterStands}
 use Rattle.cycle_sim.specs.Orders.{IsGateOrder}
-use Rattle.cycle_sim.specs.Tables.{Tables, cell, state_of, HaveSizes, AllShown, FirstShown, AllOrdered}
+use Rattle.cycle_sim.specs.Tables.{cell, state_of, HaveSizes, AllShown, FirstShown, AllOrdered}
 
 pub record IsCopied (from to : List Bool) (count : ℕ) : Type 0 where
   pub size : length to ≡ length from

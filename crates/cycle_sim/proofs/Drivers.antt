@@ -1,8 +1,8 @@
 -- The gates that drive nets, the graph of gates, and the order that its ranking gives.
-use Rattle.std.proofs.Common.{◌≡◌, ◌<◌, ◌≤◌, ◌+◌, ℕ, zero, suc, Bool, true, false, List, [], ◌∷◌, ◌++◌, map, replicate, take, set, get_or, length, refl, sym, ap, subst, ◌∙◌, inl, inr, arith}
-use Rattle.std.specs.Prelude.{◌⊎◌, Option, Some, None, slice_get, slice_index, count_by, position, flat_map, option_to_list, option_map, Contains, All}
+use Rattle.std.proofs.Common.{◌≡◌, ◌<◌, ◌≤◌, ◌+◌, ℕ, zero, suc, Bool, List, [], ◌∷◌, ◌++◌, map, replicate, take, set, get_or, length, refl, sym, ap, subst, ◌∙◌, inl, inr, arith}
+use Rattle.std.specs.Prelude.{◌⊎◌, Option, Some, None, slice_get, slice_index, count_by, flat_map, option_to_list, option_map, Contains}
 use Rattle.std.proofs.lemmas.Bool.{cases_eq, cases_lt}
-use Rattle.std.proofs.lemmas.List.{take_more, map-append, length-set, length-map, length-replicate, get_or-set_same, get_or-set_other, get_or-replicate, get_or_default, get_or_past}
+use Rattle.std.proofs.lemmas.List.{take_more, map-append, length-set, length-map, length-replicate, get_or-set_same, get_or-set_other, get_or-replicate, get_or_past}
 use Rattle.std.proofs.lemmas.List.Elements.{Contains-append_left, Contains-append_right, Contains-append_cases}
 use Rattle.std.proofs.lemmas.Option.{none-some, same_Some, slice_get_within, slice_get-get_or, get_or_from_slice_get, slice_get-map}
 use Rattle.id_arena.specs.declared.keys.ChipNetId.{ChipNetId}
@@ -17,7 +17,7 @@ use Rattle.emu_machine.specs.Netlist.{is_chip_net, net_drivers, LeadsTo, next, I
 use Rattle.emu_machine.specs.Netlist as netlist
 use Rattle.history_law.proofs.Lists.{found}
 use Rattle.history_law.proofs.Naming.{same_number}
-use Rattle.cycle_sim.specs.Standing.{ChipStands, IsThere, GateStands}
+use Rattle.cycle_sim.specs.Standing.{ChipStands}
 use Rattle.cycle_sim.specs.Orders.{AreDrivers, needs_of, IsGateOrder}
 use Rattle.cycle_sim.proofs.Counting.{few}
 

@@ -1,6 +1,6 @@
 -- The results on which the machine is tested can be run.
-use Rattle.std.proofs.Common.{◌≡◌, ◌<◌, ◌≤◌, ℕ, zero, suc, Bool, true, false, List, [], ◌∷◌, get_or, length, refl, sym, ap, subst, ◌∙◌, inl, inr, arith}
-use Rattle.std.specs.Prelude.{◌⊎◌, Option, Some, None, slice_get, Contains, All, codes}
+use Rattle.std.proofs.Common.{◌≡◌, ◌<◌, ℕ, zero, suc, Bool, List, [], ◌∷◌, get_or, length, refl, sym, ap, subst, ◌∙◌, inl, inr, arith}
+use Rattle.std.specs.Prelude.{◌⊎◌, Some, None, slice_get, Contains, codes}
 use Rattle.std.proofs.lemmas.List.Elements.{All-nil, All-cons}
 use Rattle.std.proofs.lemmas.Option.{none-some, same_Some}
 use Rattle.id_arena.specs.declared.keys.ChipNetId.{ChipNetId}
@@ -10,7 +10,6 @@ use Rattle.emu_machine.specs.declared.netlist.EmuRegister.{EmuRegister}
 use Rattle.emu_machine.specs.declared.schedule.Action.{Action}
 use Rattle.emu_machine.specs.declared.schedule.Frame.{Frame}
 use Rattle.emu_machine.specs.declared.schedule.Slot.{Slot}
-use Rattle.emu_machine.specs.declared.results.Results.{Results}
 use Rattle.emu_machine.specs.Netlist.{net_drivers, LeadsTo, next, through}
 use Rattle.cycle_sim.specs.Standing.{IsThere, GateStands, RegisterStands, ChipStands, ActionStands, CanRun}
 use Rattle.cycle_sim.specs.Tables.{HaveSizes}

@@ -1,14 +1,12 @@
 -- What is loaded from a valuation.
 use Rattle.std.proofs.Common.{◌≡◌, ◌<◌, ◌≤◌, ◌+◌, ℕ, zero, suc, Bool, true, false, List, [], ◌∷◌, ◌++◌, take, set, replicate, get_or, length, refl, sym, ap, subst, ◌∙◌, inl, inr, arith, if◌then◌else◌}
-use Rattle.std.specs.Prelude.{◌==◌, ◌&&◌, ◌||◌, ◌⊎◌, Option, Some, None, slice_get, unwrap_or, option_map, zip}
+use Rattle.std.specs.Prelude.{◌&&◌, ◌||◌, ◌⊎◌, Option, Some, None, slice_get, unwrap_or, option_map, zip}
 use Rattle.std.specs.List.{list_any}
 use Rattle.std.proofs.lemmas.Bool.{cases_eq, cases_lt, or_parts}
 use Rattle.std.proofs.lemmas.List.{length-set, length-replicate, get_or-set_same, get_or-set_other, get_or-replicate, get_or_past, length-append, get_or_append_left, get_or_push, take_all}
 use Rattle.std.proofs.lemmas.List.Folds.{list_any_more}
 use Rattle.std.proofs.lemmas.Option.{none-some, same_Some, slice_get_within, slice_get-get_or, slice_get_past}
-use Rattle.id_arena.specs.declared.keys.NetId.{NetId}
 use Rattle.design_core.specs.declared.parts.Parts.{Parts}
-use Rattle.design_core.specs.Design.{net_count}
 use Rattle.design_core.specs.Valuation.{Valuation}
 use Rattle.emu_machine.specs.declared.netlist.Chip.{Chip}
 use Rattle.emu_machine.specs.declared.netlist.EmuRegister.{EmuRegister}
@@ -22,8 +20,8 @@ use Rattle.emu_machine.specs.Netlist.{no_chip, chip_at, is_chip_net}
 use Rattle.emu_machine.specs.Mapped.{no_chip_map, chip_map, subject, memory_of, is_kept, kept_by_register, kept_by_read, IsValueOf, IsLoaded}
 use Rattle.history_law.proofs.Lists.{no}
 use Rattle.history_law.proofs.Naming.{same_number}
-use Rattle.cycle_sim.specs.Tables.{Tables, cell, state_of, HaveSizes}
-use Rattle.cycle_sim.specs.Loading.{HasValues, FreeAreZero, IsDesignNet, ChipLoads, CanLoadRegisters, CanLoad, told, IsHeld, HasHeld, FirstHeld, AreHeld}
+use Rattle.cycle_sim.specs.Tables.{cell, state_of, HaveSizes}
+use Rattle.cycle_sim.specs.Loading.{HasValues, FreeAreZero, IsDesignNet, CanLoad, told, IsHeld, HasHeld, FirstHeld, AreHeld}
 use Rattle.cycle_sim.proofs.Counting.{is_other}
 
 -- ## One register

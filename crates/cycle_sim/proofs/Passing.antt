@@ -1,7 +1,7 @@
 -- A pass over the gates in order gives each net what comes to it, since what a gate reads does not change any
 -- more when it has its turn.
-use Rattle.std.proofs.Common.{◌≡◌, ◌<◌, ◌≤◌, ◌+◌, ℕ, zero, suc, Bool, true, false, List, [], ◌∷◌, map, set, get_or, length, refl, sym, ap, subst, ◌∙◌, inl, inr, arith}
-use Rattle.std.specs.Prelude.{◌⊎◌, Option, Some, None, slice_get, slice_index, find, Contains, All}
+use Rattle.std.proofs.Common.{◌≡◌, ◌<◌, ◌≤◌, ◌+◌, ℕ, zero, suc, Bool, false, List, [], ◌∷◌, map, set, get_or, length, refl, sym, ap, subst, ◌∙◌, inl, inr, arith}
+use Rattle.std.specs.Prelude.{◌⊎◌, Option, Some, None, slice_get, slice_index, Contains, All}
 use Rattle.std.specs.Option.{option_map_or}
 use Rattle.std.proofs.lemmas.Bool.{cases_eq}
 use Rattle.std.proofs.lemmas.List.{length-set, get_or-set_same, get_or-set_other, get_or_default}
@@ -11,7 +11,7 @@ use Rattle.id_arena.specs.declared.keys.ChipNetId.{ChipNetId}
 use Rattle.design_core.specs.Operation.{op_value}
 use Rattle.emu_machine.specs.declared.netlist.Chip.{Chip}
 use Rattle.emu_machine.specs.declared.netlist.EmuGate.{EmuGate}
-use Rattle.emu_machine.specs.Netlist.{is_chip_net, gate_of, on_net}
+use Rattle.emu_machine.specs.Netlist.{is_chip_net, gate_of}
 use Rattle.history_law.proofs.Lists.{first, find_at}
 use Rattle.history_law.proofs.Naming.{same_number, number_same}
 use Rattle.cycle_sim.specs.Standing.{ChipStands, IsThere}

@@ -1,6 +1,6 @@
 -- What actions give to registers.
-use Rattle.std.proofs.Common.{◌≡◌, ◌<◌, ◌≤◌, ◌+◌, ℕ, zero, suc, Bool, true, false, List, [], ◌∷◌, drop, set, get_or, length, refl, sym, ap, subst, ◌∙◌, inl, inr, arith, if◌then◌else◌}
-use Rattle.std.specs.Prelude.{◌==◌, ◌⊎◌, Option, Some, None, slice_get, unwrap_or, option_and_then, IfSome, All}
+use Rattle.std.proofs.Common.{◌≡◌, ◌<◌, ◌+◌, ℕ, Bool, true, false, List, [], ◌∷◌, drop, set, get_or, length, refl, sym, ap, subst, ◌∙◌, inl, inr, if◌then◌else◌}
+use Rattle.std.specs.Prelude.{◌==◌, ◌⊎◌, Option, Some, None, slice_get, unwrap_or, option_and_then, IfSome}
 use Rattle.std.specs.Option.{option_or}
 use Rattle.std.proofs.lemmas.Bool.{cases_eq}
 use Rattle.std.proofs.lemmas.List.{length-set, get_or-set_same, get_or-set_other, drop_more}
@@ -10,17 +10,16 @@ use Rattle.id_arena.specs.declared.keys.ChipId.{ChipId}
 use Rattle.id_arena.specs.declared.keys.NetId.{NetId}
 use Rattle.id_arena.specs.declared.keys.RegId.{RegId}
 use Rattle.id_arena.specs.declared.wire.Wire.{Wire}
-use Rattle.emu_machine.specs.declared.netlist.Chip.{Chip}
 use Rattle.emu_machine.specs.declared.netlist.EmuRegister.{EmuRegister}
 use Rattle.emu_machine.specs.declared.schedule.Action.{Action}
 use Rattle.emu_machine.specs.declared.schedule.Action.TheVariants.{Input, Load}
 use Rattle.emu_machine.specs.declared.results.Results.{Results}
 use Rattle.emu_machine.specs.Netlist.{chip_at, is_chip_net}
-use Rattle.emu_machine.specs.State.{State, net_value, on_register, loaded_value, action_value, first_given}
+use Rattle.emu_machine.specs.State.{net_value, on_register, loaded_value, action_value, first_given}
 use Rattle.history_law.proofs.Naming.{same_number}
 use Rattle.cycle_sim.specs.Standing.{CanRun, IsThere, RegisterStands}
 use Rattle.cycle_sim.specs.Values.{value_in}
-use Rattle.cycle_sim.specs.Tables.{Tables, cell, state_of, HaveSizes, AllShown}
+use Rattle.cycle_sim.specs.Tables.{cell, state_of, HaveSizes, AllShown}
 use Rattle.cycle_sim.specs.Takes.{HasGiven, HasTakenOne, HasTaken}
 use Rattle.cycle_sim.proofs.Counting.{is_other}
 use Rattle.cycle_sim.proofs.Chips.{net_is, chip_low, low_in, register_stands, q_in}

@@ -1,13 +1,11 @@
 -- Small results on which the machine is tested: a chain of two inverters behind an input register, and a spare
 -- register that loads the chain's end. The gates stand in the order in which they can't be evaluated.
-use Rattle.std.specs.Prelude.{ℕ, Some, None, List, [], ◌∷◌, codes}
-use Rattle.id_arena.specs.declared.keys.ChipNetId.{ChipNetId}
+use Rattle.std.specs.Prelude.{ℕ, Some, None, [], ◌∷◌, codes}
 use Rattle.design_core.specs.declared.operation.Op.TheVariants.{Not}
 use Rattle.emu_machine.specs.declared.netlist.Chip.{Chip}
 use Rattle.emu_machine.specs.declared.netlist.EmuGate.{EmuGate}
 use Rattle.emu_machine.specs.declared.schedule.Action.{Action}
 use Rattle.emu_machine.specs.declared.schedule.Action.TheVariants.{Input, Load}
-use Rattle.emu_machine.specs.declared.schedule.Slot.{Slot}
 use Rattle.emu_machine.specs.declared.schedule.Schedule.{Schedule}
 use Rattle.emu_machine.specs.declared.results.Results.{Results}
 

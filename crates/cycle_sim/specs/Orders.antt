@@ -3,7 +3,6 @@
 use Rattle.std.specs.Prelude.{◌≡◌, ◌<◌, ◌≤◌, ℕ, Bool, false, Option, Some, None, List, length, get_or, slice_get, slice_index, Contains, flat_map, option_to_list}
 use Rattle.emu_machine.specs.declared.netlist.Chip.{Chip}
 use Rattle.emu_machine.specs.declared.netlist.EmuGate.{EmuGate}
-use Rattle.emu_machine.specs.Netlist.{on_net}
 use Rattle.cycle_sim.specs.Values.{comes_to}
 
 -- for each net the gate that drives it, of the first gates of a chip

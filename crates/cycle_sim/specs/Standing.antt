@@ -1,6 +1,6 @@
 -- What the machine asks of results: parts that are there, no cycle of gates, and actions whose targets are there.
 -- The rules are told in docs/RULES.md, "Netlists of chips" and "Actions, slots and frames".
-use Rattle.std.specs.Prelude.{◌≡◌, ◌<◌, ◌≤◌, ℕ, Option, Some, List, length, slice_get, Contains, All, IfSome}
+use Rattle.std.specs.Prelude.{◌≡◌, ◌<◌, ◌≤◌, ℕ, Some, length, slice_get, Contains, All, IfSome}
 use Rattle.id_arena.specs.declared.keys.ChipNetId.{ChipNetId}
 use Rattle.design_core.specs.Limits.{most_inputs}
 use Rattle.emu_machine.specs.declared.netlist.Chip.{Chip}

@@ -1,6 +1,6 @@
 -- The machine's state as tables of values.
 -- The rules are told in docs/RULES.md, "Actions, slots and frames" and "Loaded".
-use Rattle.std.specs.Prelude.{◌≡◌, ◌<◌, ℕ, Bool, false, Option, Some, List, [], length, get_or, slice_get, unwrap_or}
+use Rattle.std.specs.Prelude.{◌≡◌, ◌<◌, ℕ, Bool, false, Some, List, [], length, get_or, slice_get, unwrap_or}
 use Rattle.std.specs.Option.{option_map_or}
 use Rattle.design_core.specs.declared.values.PortBit.{PortBit}
 use Rattle.design_core.specs.Event.{given}

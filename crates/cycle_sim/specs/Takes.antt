@@ -4,7 +4,7 @@ use Rattle.std.specs.Prelude.{◌≡◌, ℕ, Bool, Option, List, unwrap_or}
 use Rattle.id_arena.specs.declared.wire.Wire.{Wire}
 use Rattle.emu_machine.specs.declared.schedule.Action.{Action}
 use Rattle.emu_machine.specs.declared.results.Results.{Results}
-use Rattle.emu_machine.specs.State.{State, action_value, first_given}
+use Rattle.emu_machine.specs.State.{action_value, first_given}
 use Rattle.cycle_sim.specs.Tables.{cell, state_of, AllShown}
 
 -- each net holds what it is given, if it is given anything, and otherwise what it held

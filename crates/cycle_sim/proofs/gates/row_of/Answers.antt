@@ -1,4 +1,4 @@
-use Rattle.std.proofs.Common.{◌≡◌, ◌<◌, ◌≤◌, ◌+◌, ◌*◌, ◌^◌, ℕ, Bool, true, false, sym, ap, ◌∙◌, arith}
+use Rattle.std.proofs.Common.{◌≡◌, ◌≤◌, ◌+◌, ◌*◌, ◌^◌, ap, ◌∙◌, arith}
 use Rattle.design_core.specs.Operation.{bit}
 use Rattle.cycle_sim.proofs.Rows.{next_row, added, passed_over, stays_low, doubled, power, rest_there}
 use Rattle.cycle_sim.proofs.gates.row_of.Goals.{then-value_of, else-value_of}

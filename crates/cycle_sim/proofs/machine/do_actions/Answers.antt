@@ -1,5 +1,3 @@
-use Rattle.std.proofs.Common.{◌≡◌, List, length}
-use Rattle.id_arena.specs.declared.wire.Wire.{Wire}
 use Rattle.cycle_sim.proofs.Steps.{stepped}
 use Rattle.cycle_sim.proofs.machine.do_actions.Goals as goal
 

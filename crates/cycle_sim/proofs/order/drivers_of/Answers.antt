@@ -1,6 +1,6 @@
-use Rattle.std.proofs.Common.{◌≡◌, ◌<◌, ◌≤◌, ◌+◌, ℕ, Some, length, slice_set, sym, subst, arith}
+use Rattle.std.proofs.Common.{◌+◌, ℕ, Some, slice_set, sym, subst, arith}
 use Rattle.cycle_sim.specs.Orders.{AreDrivers}
-use Rattle.cycle_sim.proofs.Drivers.{next_driver, no_drivers}
+use Rattle.cycle_sim.proofs.Drivers.{next_driver}
 use Rattle.cycle_sim.proofs.order.drivers_of.Goals as goal
 
 pub index_mut-requires : goal.index_mut-requires

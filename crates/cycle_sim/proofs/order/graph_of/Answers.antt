@@ -1,9 +1,5 @@
-use Rattle.std.proofs.Common.{◌≡◌, ◌+◌, ℕ, List, [], ◌∷◌, ◌++◌, map, take, get_or, refl, sym, ap, subst, ◌∙◌}
-use Rattle.std.proofs.lemmas.List.{take_more, map-append}
-use Rattle.std.proofs.lemmas.Option.{get_or_from_slice_get}
-use Rattle.emu_machine.specs.declared.netlist.EmuGate.{EmuGate}
+use Rattle.std.proofs.Common.{ℕ, [], ◌∷◌, ◌++◌, sym, ap, subst, ◌∙◌}
 use Rattle.cycle_sim.specs.Standing.{GateStands}
-use Rattle.cycle_sim.specs.Orders.{needs_of}
 use Rattle.cycle_sim.proofs.Drivers.{one_row}
 use Rattle.cycle_sim.proofs.order.graph_of.Goals as goal
 

@@ -1,8 +1,8 @@
-use Rattle.std.proofs.Common.{◌≡◌, List, ℕ, map, sym, subst, length}
-use Rattle.std.specs.Prelude.{Option, Err}
+use Rattle.std.proofs.Common.{List, ℕ, map, sym, subst, length}
+use Rattle.std.specs.Prelude.{Err}
 use Rattle.graph_rank.specs.declared.fault.GraphFault.{GraphFault}
 use Rattle.graph_rank.specs.Rows.{InRange}
-use Rattle.graph_rank.specs.Ranks.{IsRanking, IsOrder}
+use Rattle.graph_rank.specs.Ranks.{IsRanking}
 use Rattle.graph_rank.specs.Cycles.{IsCycle}
 use Rattle.graph_rank.specs.Answers.{Answers}
 use Rattle.cycle_sim.specs.Orders.{needs_of, AreDrivers}

@@ -1,5 +1,5 @@
 -- The first values are copied.
-use Rattle.std.proofs.Common.{◌≡◌, ◌<◌, ℕ, length, get_or}
+use Rattle.std.proofs.Common.{◌≡◌, length}
 use Rattle.std.specs.Prelude.{take}
 use Rattle.cycle_sim.proofs.pass.copy_values.Given as goal
 

@@ -1,4 +1,4 @@
-use Rattle.std.proofs.Common.{◌≡◌, ◌≤◌, ℕ, length, arith}
+use Rattle.std.proofs.Common.{◌≤◌, length, arith}
 use Rattle.cycle_sim.proofs.Chips.{order_here, all_shown}
 use Rattle.cycle_sim.proofs.pass.settle_all.Goals as goal
 

@@ -1,10 +1,5 @@
-use Rattle.std.proofs.Common.{◌≡◌, ◌<◌, ℕ, Bool, List, length, get_or, sym, ap, subst, ◌∙◌, arith}
-use Rattle.std.specs.Prelude.{Option, Some, None}
-use Rattle.emu_machine.specs.declared.schedule.Action.{Action}
-use Rattle.emu_machine.specs.State.{loaded_value}
-use Rattle.cycle_sim.specs.Values.{value_in}
-use Rattle.cycle_sim.specs.Takes.{HasTakenOne}
-use Rattle.cycle_sim.proofs.Chips.{chip_low, low_in, register_stands, q_in, stands_in}
+use Rattle.std.proofs.Common.{sym, ◌∙◌}
+use Rattle.cycle_sim.proofs.Chips.{low_in, q_in, stands_in}
 use Rattle.cycle_sim.proofs.Taking.{input_done, load_done, load_left}
 use Rattle.cycle_sim.proofs.taken.take.Goals as goal
 

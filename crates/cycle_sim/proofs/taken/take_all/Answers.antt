@@ -1,4 +1,4 @@
-use Rattle.std.proofs.Common.{◌≡◌, ◌<◌, ◌≤◌, ◌+◌, ◌-◌, ℕ, length, arith}
+use Rattle.std.proofs.Common.{◌≡◌, ◌+◌, ◌-◌, arith}
 use Rattle.cycle_sim.proofs.Taking.{one_taken, all_taken}
 use Rattle.cycle_sim.proofs.taken.take_all.Goals as goal
 

@@ -1,5 +1,5 @@
-use Rattle.std.proofs.Common.{◌≡◌, ◌<◌, List, ℕ, Bool, length, sym, ap, subst, ◌∙◌, arith}
-use Rattle.emu_machine.specs.State.{slot_step, frame_slots}
+use Rattle.std.proofs.Common.{◌<◌, List, Bool, length, sym, ap, subst, ◌∙◌, arith}
+use Rattle.emu_machine.specs.State.{frame_slots}
 use Rattle.cycle_sim.specs.Standing.{CanRun}
 use Rattle.cycle_sim.specs.Tables.{state}
 use Rattle.cycle_sim.proofs.Steps.{frame_actions, same_step, one_slot}

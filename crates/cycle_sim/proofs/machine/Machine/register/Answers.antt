@@ -1,4 +1,4 @@
-use Rattle.std.proofs.Common.{◌<◌, List, [], ℕ, Bool, length, get_or, sym, subst}
+use Rattle.std.proofs.Common.{◌<◌, List, [], Bool, length, get_or, sym, subst}
 use Rattle.cycle_sim.proofs.Chips.{q_in}
 use Rattle.cycle_sim.proofs.machine.Machine.register.Goals as goal
 
