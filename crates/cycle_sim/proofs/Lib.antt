@@ -7,3 +7,4 @@ pub mod Taking
 pub mod Steps
 pub mod Loads
 pub mod Examples
+pub mod JudgedResults

@@ -5,3 +5,4 @@ pub mod Orders
 pub mod Takes
 pub mod Loading
 pub mod Example
+pub mod Judged

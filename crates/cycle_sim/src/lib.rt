@@ -6,12 +6,14 @@
 #![tactic(auto)]
 
 mod gates;
+mod laws;
 mod loaded;
 mod machine;
 mod order;
 mod pass;
 mod taken;
 
+pub use laws::{judged_can_load, judged_can_run};
 pub use loaded::Loaded;
 pub use machine::Machine;
 
