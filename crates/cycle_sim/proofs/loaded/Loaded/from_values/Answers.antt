@@ -1,0 +1,15 @@
+use Rattle.cycle_sim.proofs.Loads.{sizes_fit, loads, free}
+use Rattle.cycle_sim.proofs.loaded.Loaded.from_values.Goals as goal
+
+pub returns-clause-sizes : goal.returns-clause-sizes
+returns-clause-sizes c =
+    sizes_fit c.args.design.now c.args.results.now c.requires.mapped _ c.in_ok-held.held.items c.in_ok-held.ensures
+
+pub returns-clause-loaded : goal.returns-clause-loaded
+returns-clause-loaded c = λ v has.
+    loads c.args.design.now c.args.results.now c.requires.mapped _ c.in_ok-held.held.items c.in_ok-held.ensures v has
+    c.in_ok-outside.outside.items c.in_ok-outside.ensures
+
+pub returns-clause-free : goal.returns-clause-free
+returns-clause-free c =
+    free c.args.design.now c.args.results.now c.requires.mapped _ c.in_ok-held.held.items c.in_ok-held.ensures c.in_ok-outside.outside.items

@@ -1,0 +1,21 @@
+//! The emulator's machine: what registers hold, slot by slot, and what the nets of chips show.
+//!
+//! A machine is opened on results and on what it is loaded with. `slot` is one slot step, `present`
+//! and `frame` do an event, and `net` and `register` are the values of the state. None of these takes
+//! memory. A slot goes once over the gates of each chip, in an order in which inputs come first.
+#![tactic(auto)]
+
+mod gates;
+mod laws;
+mod loaded;
+mod machine;
+mod order;
+mod pass;
+mod taken;
+
+pub use laws::{judged_can_load, judged_can_run};
+pub use loaded::Loaded;
+pub use machine::Machine;
+
+#[cfg(test)]
+mod tests;

@@ -1,0 +1,141 @@
+//! What a machine is loaded with.
+
+ghost use Rattle.std.specs.Prelude.{◌≡◌, ◌<◌, IfOk, Some, length};
+ghost use Rattle.design_core.specs.Design.{net_count};
+ghost use Rattle.design_core.specs.Valuation.{Valuation};
+ghost use Rattle.emu_machine.specs.Mapped.{IsLoaded};
+ghost use Rattle.cycle_sim.specs.Loading.{AreHeld, CanLoad, CanLoadRegisters, ChipLoads, FreeAreZero, HasHeld, HasValues, IsHeld, told};
+ghost use Rattle.cycle_sim.specs.Tables.{HaveSizes, state_of};
+
+use design_core::Design;
+use emu_io::{List, NoMemory};
+use emu_machine::{Chip, ChipMap, EmuRegister, Results, Subject};
+use id_arena::Key;
+use std::alloc::Global;
+use std::marker::Model;
+
+/// What the registers of a machine hold and which values stand outside when it is opened.
+///
+/// A clause sees the two tables: by chip and net what a register holds there, and by net of the design
+/// the outside value of an input.
+#[derive(Drop)]
+pub struct Loaded {
+    held: Vec<List<bool>>,
+    outside: Vec<bool>,
+}
+
+impl Model for Loaded {
+    ghost use Rattle.cycle_sim.specs.Tables.{Tables};
+
+    ghost Value = { Tables };
+
+    ghost view = { λ l. record { held = l.held.items; outside = l.outside.items } };
+}
+
+impl Loaded {
+    /// What is loaded from a valuation, of which `values` has the value of each net of the design. A kept
+    /// register holds the value of the net that it stands for, and a free one holds 0.
+    pub fn from_values(
+        alloc: Global,
+        design: &Design,
+        results: &Results,
+        values: &[bool],
+    ) -> Result<Loaded, NoMemory>
+        requires values { length values.now ≡ net_count design.now }
+        requires mapped { CanLoad design.now results.now }
+        ensures sizes { IfOk result (λ t. HaveSizes results.now t.held) }
+        ensures outside { IfOk result (λ t. t.outside ≡ values.now) }
+        ensures loaded { IfOk result (λ t. (v : Valuation) → HasValues design.now values.now v
+            → IsLoaded design.now results.now v (state_of t)) }
+        ensures free { IfOk result (λ t. FreeAreZero results.now (state_of t)) }
+    {
+        let held = held_of(alloc, results, values)?;
+        let outside = copy_of(alloc, values)?;
+        Ok(Loaded { held, outside })
+    }
+
+    /// What is loaded of the two tables.
+    #[cfg(test)]
+    pub(crate) fn from_tables(held: Vec<List<bool>>, outside: Vec<bool>) -> Loaded
+        ensures held { result.held ≡ held.items }
+        ensures outside { result.outside ≡ outside.items }
+    {
+        Loaded { held, outside }
+    }
+
+    /// The two tables.
+    pub(crate) fn into_tables(self) -> (Vec<List<bool>>, Vec<bool>)
+        ensures held { result.0.items ≡ self.held }
+        ensures outside { result.1.items ≡ self.outside }
+    {
+        (self.held, self.outside)
+    }
+}
+
+/// The same values in a table of their own.
+fn copy_of(alloc: Global, values: &[bool]) -> Result<Vec<bool>, NoMemory>
+    ensures { IfOk result (λ table. table.items ≡ values.now) }
+{
+    let table = values.iter().copied().collect(alloc)?;
+    Ok(table)
+}
+
+/// By chip and net what a register holds there.
+fn held_of(alloc: Global, results: &Results, values: &[bool]) -> Result<Vec<List<bool>>, NoMemory>
+    requires { CanLoadRegisters results.now }
+    ensures { IfOk result (λ held. AreHeld results.now values.now (length results.now.net) held.items) }
+{
+    let mut held = Vec::new(alloc);
+    'chips: for c in 0..results.net.len() {
+        held.push(chip_held(alloc, results.net.get(c), results.map.chips.get(c), values)?)?;
+    }
+    Ok(held)
+}
+
+/// By net of a chip what a register holds there.
+fn chip_held(
+    alloc: Global,
+    chip: &Chip,
+    entry: &ChipMap,
+    values: &[bool],
+) -> Result<List<bool>, NoMemory>
+    requires { ChipLoads chip.now entry.now }
+    ensures { IfOk result (λ held. IsHeld chip.now entry.now values.now held) }
+{
+    let mut held = List::from_vec(vec![in alloc; false; chip.nets as usize]?);
+    'registers: for k in 0..chip.registers.len() {
+        hold(
+            *chip.registers.get(k),
+            *entry.kept.get(k),
+            entry,
+            values,
+            &mut held,
+        );
+    }
+    Ok(held)
+}
+
+/// Gives the Q of a register the value of what it stands for, if the register is kept.
+fn hold(register: EmuRegister, kept: bool, entry: &ChipMap, values: &[bool], held: &mut List<bool>)
+    requires there { register.q.place < length held.old }
+    requires subject { register.q.place < length entry.now.nets }
+    ensures { HasHeld register kept entry.now values.now held.old held.new }
+{
+    if kept {
+        let subject = entry.nets.get(register.q.place() as u64);
+        held.set(register.q.place() as u64, told(*subject, values));
+    }
+}
+
+/// The value of what a net stands for, if it is a net of the design.
+fn told(subject: Subject, values: &[bool]) -> bool
+    ensures { result ≡ told values.now (Some subject) }
+{
+    match subject {
+        Subject::Net(net) => match values.get(net.place() as usize) {
+            Some(value) => *value,
+            None => false,
+        },
+        _ => false,
+    }
+}

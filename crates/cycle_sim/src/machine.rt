@@ -1,0 +1,245 @@
+//! The machine, slot by slot and event by event.
+
+ghost use Rattle.std.specs.Prelude.{◌≡◌, ◌<◌, ℕ, Some, All, List, [], IfOk, get_or, length, slice_get};
+ghost use Rattle.id_arena.specs.declared.wire.Wire.{Wire};
+ghost use Rattle.emu_machine.specs.declared.netlist.Chip.{Chip};
+ghost use Rattle.emu_machine.specs.declared.netlist.EmuRegister.{EmuRegister};
+ghost use Rattle.emu_machine.specs.Netlist.{chip_at};
+ghost use Rattle.emu_machine.specs.State.{after_frame, frame_slots, net_value, present, slot_step};
+ghost use Rattle.cycle_sim.specs.Standing.{ActionStands, CanRun, ChipStands, IsRegister};
+ghost use Rattle.cycle_sim.specs.Tables.{AllOrdered, cell, HasPut, HaveSizes, IsMachine, slot_actions, state, state_of};
+
+use crate::loaded::Loaded;
+use crate::order::order_of;
+use crate::pass::settle_all;
+use crate::taken::{register_of, take_all};
+use design_core::{PortBit, PortValues};
+use emu_io::{List, NoMemory};
+use emu_machine::{Action, Results, Slot};
+use graph_rank::Order;
+use id_arena::{ChipId, ChipNetId, GroupId, Key, RegId};
+use std::alloc::Global;
+use std::marker::Model;
+
+/// The emulator's machine, opened on results.
+///
+/// A clause sees the results and the tables of the state.
+#[derive(Drop)]
+pub struct Machine<'a> {
+    results: &'a Results,
+    /// By chip and net what a register holds there.
+    held: Vec<List<bool>>,
+    /// By chip and net what the net shows.
+    shown: Vec<List<bool>>,
+    /// An order of the gates of each chip.
+    orders: Vec<Order>,
+    /// By net of the design the outside value of an input.
+    outside: Vec<bool>,
+}
+
+impl<'a> Model for Machine<'a> {
+    ghost use Rattle.cycle_sim.specs.Tables.{IsMachine, Running};
+
+    ghost Value = { Running };
+
+    ghost view = { λ m. record {
+      results = m.results.now;
+      tables = record { held = m.held.items; outside = m.outside.items };
+    } };
+
+    ghost invariant = { λ m. IsMachine m.results.now (record { held = m.held.items; outside = m.outside.items }) m.shown.items m.orders.items };
+}
+
+impl<'a> Machine<'a> {
+    /// The machine that runs these results, in the state that it is loaded with.
+    pub fn open(
+        alloc: Global,
+        results: &'a Results,
+        loaded: Loaded,
+    ) -> Result<Machine<'a>, NoMemory>
+        requires runs { CanRun results.now (length loaded.outside) }
+        requires loaded { HaveSizes results.now loaded.held }
+        ensures { IfOk result (λ m. m ≡ record { results = results.now; tables = loaded }) }
+    {
+        let orders = orders_of(alloc, results)?;
+        let mut shown = zeros(alloc, results)?;
+        let (held, outside) = loaded.into_tables();
+        settle_all(results, orders.as_slice(), held.as_slice(), &mut shown);
+        Ok(Machine {
+            results,
+            held,
+            shown,
+            orders,
+            outside,
+        })
+    }
+
+    /// Puts these values outside. Where an input is given two values, the later one counts.
+    pub fn present(&mut self, values: &PortValues)
+        requires { All (λ b. b.net.place < length self.old.tables.outside) values.now }
+        ensures results { self.new.results ≡ self.old.results }
+        ensures inputs { length self.new.tables.outside ≡ length self.old.tables.outside }
+        ensures state { state self.new ≡ present values.now (state self.old) }
+    {
+        put_values(values.as_slice(), &mut self.outside);
+    }
+
+    /// Does one slot of a group's frame.
+    pub fn slot(&mut self, group: GroupId, t: u32)
+        requires group { group.place < length self.old.results.schedule.frames }
+        requires slot { t < length (frame_slots self.old.results group.place) }
+        ensures results { self.new.results ≡ self.old.results }
+        ensures inputs { length self.new.tables.outside ≡ length self.old.tables.outside }
+        ensures state { (wires : List Wire)
+            → state self.new ≡ slot_step self.old.results.net wires (slot_actions self.old.results group.place t) (state self.old) }
+    {
+        self.stands();
+        let results = self.results;
+        self.step(actions_of(results, group, t as usize));
+    }
+
+    /// Does the frame of an event: its values are put outside, and all slots of its group's frame follow.
+    pub fn frame(&mut self, group: GroupId, values: &PortValues)
+        requires group { group.place < length self.old.results.schedule.frames }
+        requires values { All (λ b. b.net.place < length self.old.tables.outside) values.now }
+        ensures results { self.new.results ≡ self.old.results }
+        ensures inputs { length self.new.tables.outside ≡ length self.old.tables.outside }
+        ensures state { (wires : List Wire)
+            → state self.new ≡ after_frame self.old.results wires (record { group = group; values = values.now }) (state self.old) }
+    {
+        self.stands();
+        let results = self.results;
+        self.present(values);
+        'slots: for t in 0..slots_of(results, group).len() {
+            self.step(actions_of(results, group, t));
+        }
+    }
+
+    /// The value of a net.
+    pub fn net(&self, chip: ChipId, net: ChipNetId) -> bool
+        requires chip { chip.place < length self.now.results.net }
+        requires net { net.place < (chip_at self.now.results.net chip.place).nets }
+        ensures { result ≡ net_value self.now.results.net (state self.now) chip.place net.place }
+    {
+        value_at(self.shown.as_slice(), chip, net)
+    }
+
+    /// What a register holds.
+    pub fn register(&self, chip: ChipId, register: RegId) -> bool
+        requires { IsRegister self.now.results chip.place register.place }
+        ensures { (r : EmuRegister) → slice_get (chip_at self.now.results.net chip.place).registers register.place ≡ Some r
+            → result ≡ (state self.now).held chip.place r.q.place }
+    {
+        let q = register_of(self.results, chip, register).q;
+        value_at(self.held.as_slice(), chip, q)
+    }
+
+    /// What holds of every machine, for its callers: it can run its results.
+    pub fn stands(&self)
+        ensures { CanRun self.now.results (length self.now.tables.outside) }
+    {
+        let _ = &self.results;
+    }
+
+    /// Does the actions of a slot.
+    fn step(&mut self, actions: &[Action])
+        requires { All (ActionStands self.old.results (length self.old.tables.outside)) actions.now }
+        ensures results { self.new.results ≡ self.old.results }
+        ensures inputs { self.new.tables.outside ≡ self.old.tables.outside }
+        ensures state { (wires : List Wire)
+            → state self.new ≡ slot_step self.old.results.net wires actions.now (state self.old) }
+    {
+        do_actions(
+            self.results,
+            self.orders.as_slice(),
+            self.outside.as_slice(),
+            actions,
+            &mut self.held,
+            &mut self.shown,
+        );
+    }
+}
+
+/// Gives the targets of some actions their values, and then the nets of all chips theirs.
+fn do_actions(
+    results: &Results,
+    orders: &[Order],
+    outside: &[bool],
+    actions: &[Action],
+    held: &mut [List<bool>],
+    shown: &mut [List<bool>],
+)
+    requires actions { All (ActionStands results.now (length outside.now)) actions.now }
+    requires machine { IsMachine results.now (record { held = held.old; outside = outside.now }) shown.old orders.now }
+    ensures machine { IsMachine results.now (record { held = held.new; outside = outside.now }) shown.new orders.now }
+    ensures state { (wires : List Wire) → state_of (record { held = held.new; outside = outside.now })
+        ≡ slot_step results.now.net wires actions.now (state_of (record { held = held.old; outside = outside.now })) }
+{
+    take_all(results, shown, outside, actions, held);
+    settle_all(results, orders, held, shown);
+}
+
+/// The value that a table has for a net of a chip.
+fn value_at(table: &[List<bool>], chip: ChipId, net: ChipNetId) -> bool
+    requires chip { chip.place < length table.now }
+    requires net { net.place < length (get_or table.now chip.place []) }
+    ensures { result ≡ cell table.now chip.place net.place }
+{
+    *table[chip.place() as usize].get(net.place() as u64)
+}
+
+/// The slots of a group's frame.
+fn slots_of(results: &Results, group: GroupId) -> &[Slot]
+    requires { group.place < length results.now.schedule.frames }
+    ensures { result.now ≡ frame_slots results.now group.place }
+{
+    results
+        .schedule
+        .frames
+        .get(group.place() as u64)
+        .slots
+        .as_slice()
+}
+
+/// The actions of a slot.
+fn actions_of(results: &Results, group: GroupId, t: usize) -> &[Action]
+    requires group { group.place < length results.now.schedule.frames }
+    requires slot { t < length (frame_slots results.now group.place) }
+    ensures { result.now ≡ slot_actions results.now group.place t }
+{
+    slots_of(results, group)[t].actions.as_slice()
+}
+
+/// An order of the gates of each chip.
+fn orders_of(alloc: Global, results: &Results) -> Result<Vec<Order>, NoMemory>
+    requires { (c : ℕ) (chip : Chip) → slice_get results.now.net c ≡ Some chip → ChipStands chip }
+    ensures { IfOk result (λ orders. AllOrdered results.now orders.items) }
+{
+    let mut orders = Vec::new(alloc);
+    'chips: for chip in results.net.as_slice() {
+        orders.push(order_of(alloc, chip)?)?;
+    }
+    Ok(orders)
+}
+
+/// A value for each net of each chip, as yet 0.
+fn zeros(alloc: Global, results: &Results) -> Result<Vec<List<bool>>, NoMemory>
+    ensures { IfOk result (λ table. HaveSizes results.now table.items) }
+{
+    let mut table = Vec::new(alloc);
+    'chips: for chip in results.net.as_slice() {
+        table.push(List::from_vec(vec![in alloc; false; chip.nets as usize]?))?;
+    }
+    Ok(table)
+}
+
+/// Puts values in the place of those that stand there, one after the other.
+fn put_values(values: &[PortBit], table: &mut [bool])
+    requires { All (λ b. b.net.place < length table.old) values.now }
+    ensures size { length table.new ≡ length table.old }
+    ensures put { HasPut values.now table.old table.new }
+{
+    'values: for bit in values {
+        table[bit.net.place() as usize] = bit.value;
+    }
+}
