@@ -96,6 +96,7 @@ place_is command place what is within = subst (λ w. place_of command w ≡ plac
     all (suc (suc (suc (suc (suc (suc (suc zero))))))) below = refl
     all (suc (suc (suc (suc (suc (suc (suc (suc zero)))))))) below = refl
     all (suc (suc (suc (suc (suc (suc (suc (suc (suc k))))))))) below = absurd (omega (arith, below))
+
     few : (k : ℕ) → k < 5 → place_of Settle (text_at Settle k) ≡ k
     few zero below = refl
     few (suc zero) below = refl
@@ -103,6 +104,7 @@ place_is command place what is within = subst (λ w. place_of command w ≡ plac
     few (suc (suc (suc zero))) below = refl
     few (suc (suc (suc (suc zero)))) below = refl
     few (suc (suc (suc (suc (suc k))))) below = absurd (omega (arith, below))
+
     go : (c : Command) (k : ℕ) → k < text_count c → place_of c (text_at c k) ≡ k
     go Check k below = all k (omega (arith, below))
     go Replay k below = all k below

@@ -1,5 +1,5 @@
 -- That acceptance does not hang on which test of the influence is taken: all tests say the same.
-use Rattle.std.proofs.Common.{ℕ, ◌≡◌, ◌<◌, ◌↔◌, ◌&&◌, Bool, true, false, not, Option, Some, None, is_some, IsTrue, slice_get, [], refl, sym, subst, fun_ext}
+use Rattle.std.proofs.Common.{ℕ, ◌≡◌, ◌<◌, ◌↔◌, ◌&&◌, Bool, true, false, not, Option, Some, None, is_some, IsTrue, slice_get, [], refl, sym, subst}
 use Rattle.std.specs.Option.{option_map_or}
 use Rattle.design_core.specs.declared.node.NodeId.{NodeId}
 use Rattle.design_core.specs.Influence.{Group, all_groups, IsReached}
@@ -8,6 +8,10 @@ use Rattle.emu_machine.specs.declared.place.Place.TheVariants.{Chips, Gate, Weig
 use Rattle.emu_machine.specs.declared.schedule.Frame.{Frame as FrameOf}
 use Rattle.emu_machine.specs.Acceptance.{Case, Rule, A1, A2, A3, A4, A5, A6, A7, A8, A9, A10, A11, A12, Influences, Holds, IsAccepted, FailsA4, FailsA10, FailsA11, frame_differs, has_frame, sends_inside, fails_test, action_at}
 use Rattle.schedule_check.specs.Verdict.{FailsFirst}
+
+-- functions that are the same at each place are the same
+same_function : {A B : Type 0} (f g : A → B) → ((x : A) → f x ≡ g x) → f ≡ g
+same_function f g same = λ i x. same x i
 
 same_bool : (P : Type 0) (x y : Bool) → (x ≡ true) ↔ P → (y ≡ true) ↔ P → x ≡ y
 same_bool P true true a b = refl
@@ -33,11 +37,11 @@ module _ (c : Case) (one other : ℕ → NodeId → Bool) (of-one : Influences c
   same_test : (k : ℕ) → IsTrue (has_frame c k) → other k ≡ one k
   same_test k there =
       let g : (g : Group) × (slice_get (all_groups c.design c.groups) k ≡ Some g) = group_there k there in
-      fun_ext (λ a. same_bool (IsReached c.design g.0.nets a) (other k a) (one k a) (of-other k g.0 g.1 a) (of-one k g.0 g.1 a))
+      same_function (other k) (one k) (λ a. same_bool (IsReached c.design g.0.nets a) (other k a) (one k a) (of-other k g.0 g.1 a) (of-one k g.0 g.1 a))
 
   moved_a11 : (at : Place) → FailsA11 c other at → FailsA11 c one at
   moved_a11 (EndRegister k chip register) fails = subst (λ (test : NodeId → Bool). FailsA11 c (λ j. test) (EndRegister k chip register)) (same_test k (both _ _ fails)) fails
-  moved_a11 (EndMemory k chip mem) fails = subst (λ (test : NodeId → Bool). FailsA11 c (λ j. test) (EndMemory k chip mem)) (same_test k (both _ _ fails)) fails
+  moved_a11 (EndMemory k chip mem) fails = subst (λ (test : NodeId → Bool). FailsA11 c (λ j. test) (EndMemory k chip mem)) (same_test k (both _ _ (both _ _ fails))) fails
   moved_a11 (EndRead k chip mem port) fails = subst (λ (test : NodeId → Bool). FailsA11 c (λ j. test) (EndRead k chip mem port)) (same_test k (both _ _ fails)) fails
   moved_a11 (Chips m) fails = fails
   moved_a11 (Gate a b) fails = fails

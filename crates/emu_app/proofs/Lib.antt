@@ -6,3 +6,4 @@ pub mod Endings
 mod Refusals
 pub mod FreeTests
 pub mod Completing
+pub mod Circles

@@ -34,7 +34,7 @@ one_design law trees apart top text p q says-p says-q =
     (subst (λ t. designs.Describes text says-p.tokens t top q) same.1 (subst (λ ts. designs.Describes text ts says-q.tree top q) same.0 says-q.describes))
 
 -- a text writes down one netlist
-one_netlist : reading.EachTextHasOneAnswer → netlists.TextsTellChipsApart → (text : List ℕ) (m n : Chip) → SaysNetlist text m → SaysNetlist text n → m ≡ n
+pub one_netlist : reading.EachTextHasOneAnswer → netlists.TextsTellChipsApart → (text : List ℕ) (m n : Chip) → SaysNetlist text m → SaysNetlist text n → m ≡ n
 one_netlist law apart text m n says-m says-n =
     let same : says-n.tokens ≡ says-m.tokens = tokens_once law text says-m.tokens says-m.are_tokens says-n.tokens says-n.are_tokens in
     apart text says-m.tokens m n says-m.few says-m.writes (subst (λ ts. netlists.SaysChip text ts n) same says-n.writes)

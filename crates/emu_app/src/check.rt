@@ -49,7 +49,8 @@ fn judge_read(alloc: Global, top: &[u8], texts: &List<Text>) -> Result<Answer, U
     let design = read_first(alloc, Command::Check, top, texts)?;
     let chip = read_board_texts(alloc, Command::Check, top, texts, &design)?;
     let results = read_results(alloc, Command::Check, top, texts, &design, chip)?;
-    Ok(judge_case(alloc, &design, chip, results)?)
+    let found = judge_case(alloc, &design, chip, results)?;
+    Ok(found)
 }
 
 /// The verdict on a case.

@@ -83,6 +83,8 @@ pub fn read_results(
     ensures means { AllMean command top.now (texts_of command texts.now) (ResultsSay (texts_of command texts.now)) result }
     ensures plain { IfOk result IsPlainResults }
 {
+    verilog_lex::each_text_has_one_answer();
+    result_files::plain_netlists_are_told_apart();
     let _design = design;
     let _chip = chip;
     let netlist = read_netlist(alloc, text_at(command, texts, What::Netlist))?;

@@ -4,9 +4,9 @@ mod judged;
 mod refused;
 
 use crate::{Status, run};
+use emu_io::{List, MemFiles, MemSink, NoMemory, Text, Word};
 use judged::JUDGED;
 use refused::REFUSED;
-use emu_io::{List, MemFiles, MemSink, NoMemory, Text, Word};
 use std::alloc::Global;
 use std::test::Fail;
 
@@ -205,7 +205,12 @@ fn end_of_case(alloc: Global, texts: &[&'static [u8]; 6]) -> Result<Outcome, NoM
 fn cases_of_other_programs_end_as_told(rt: HostRuntime) -> Result<(), Fail> {
     for (texts, printed) in JUDGED.iter().chain(REFUSED.iter()) {
         let ended = end_of_case(rt.alloc(), texts)?;
-        assert_eq!(rt; ended.out.written(), *printed, "{}", texts[0].escape_ascii());
+        assert_eq!(rt;
+            ended.out.written(),
+            *printed,
+            "{}",
+            texts[0].escape_ascii()
+        );
         assert_eq!(rt; ended.status, status_of(printed));
     }
     Ok(())
@@ -263,7 +268,10 @@ fn a_design_beyond_its_limit_is_refused(rt: HostRuntime) -> Result<(), Fail> {
     let mut files = MemFiles::new(rt.alloc(), &[])?;
     hold(rt.alloc(), &mut files, b"d.v", spaces.as_slice())?;
     let ended = end_of(rt.alloc(), CHECK, &mut files, &[])?;
-    assert_eq!(rt; ended.out.written(), b"refused design TooLarge\n".as_slice());
+    assert_eq!(rt;
+        ended.out.written(),
+        b"refused design TooLarge\n".as_slice()
+    );
     assert_eq!(rt; ended.status, Status::Refused);
     Ok(())
 }
