@@ -9,6 +9,7 @@ size and program: seconds (the best of three runs), and the most memory. Run it 
 import os
 import resource
 import subprocess
+import sys
 import tempfile
 import time
 
@@ -58,14 +59,20 @@ def texts(count):
     ]
 
 
-def measure(program, folder, wanted):
+def measure(program, folder):
+    """Runs a program once. This is done in a small process, since a child begins with its parent's memory."""
     before = time.monotonic()
     process = subprocess.Popen([program, "check", "t"] + NAMES, cwd=folder, stdout=subprocess.PIPE)
     printed = process.stdout.read().decode()
     _, _, usage = os.wait4(process.pid, 0)
-    seconds = time.monotonic() - before
-    assert printed == wanted, printed
-    return seconds, usage.ru_maxrss * 1024
+    print(time.monotonic() - before, usage.ru_maxrss * 1024, repr(printed))
+
+
+def measured(program, folder, wanted):
+    told = subprocess.run([sys.executable, __file__, program, folder], check=True, capture_output=True, text=True).stdout
+    seconds, memory, printed = told.split(" ", 2)
+    assert printed.strip() == repr(wanted), printed
+    return float(seconds), int(memory)
 
 
 def compare(folder, label, written, wanted, plain):
@@ -73,7 +80,7 @@ def compare(folder, label, written, wanted, plain):
         with open(os.path.join(folder, name), "w") as file:
             file.write(text)
     for who, program in (("emu", EMU), ("plain", plain)):
-        best = min(measure(program, folder, wanted) for _ in range(3))
+        best = min(measured(program, folder, wanted) for _ in range(3))
         print(f"{label} {who} {best[0]:.3f} s {best[1] / 1e6:.1f} MB")
 
 
@@ -90,4 +97,7 @@ def main():
             compare(folder, f"check {count} inverters", texts(count), "accepted\nframe * 1\n", plain)
 
 
-main()
+if len(sys.argv) == 3:
+    measure(sys.argv[1], sys.argv[2])
+else:
+    main()

@@ -155,77 +155,6 @@ fn parts(alloc: Global) -> Result<Parts, NoMemory> {
     })
 }
 
-/// Those parts with one gate more, in the top.
-fn with_gate(alloc: Global, op: Op, inputs: &[u32], output: u32) -> Result<Parts, NoMemory> {
-    let mut more = parts(alloc)?;
-    more.elements.push(gate(alloc, op, inputs, output)?)?;
-    more.paths.push(0)?;
-    Ok(more)
-}
-
-#[test]
-fn readers_give_the_parts(rt: HostRuntime) -> Result<(), Fail> {
-    let alloc = rt.alloc();
-    let sound = parts(alloc)?;
-    assert!(rt; is_countable(&sound));
-    let Ok(design) = Design::build(alloc, sound) else {
-        panic!(rt; "the parts are sound");
-    };
-    assert_eq!(rt; (design.nets(), design.elems(), design.mems()), (9, 3, 1));
-    let drivers = [
-        Driver::Constant(false),
-        Driver::Constant(true),
-        Driver::Input,
-        Driver::Input,
-        Driver::Constant(false),
-        Driver::Elem(ElemId::of(0)),
-        Driver::Elem(ElemId::of(1)),
-        Driver::Read(MemId::of(0), 0, 0),
-        Driver::Constant(false),
-    ];
-    let names = [
-        "1'b0",
-        "1'b1",
-        "a[2]",
-        "a[3]",
-        "w",
-        "n",
-        "u~0~11/q/~[6]",
-        "y",
-        "u~0~11/z",
-    ];
-    for place in 0..9u32 {
-        if place < design.nets() {
-            assert_eq!(rt; design.driver(net(place)), drivers[place as usize]);
-            let name = design.net_name(alloc, net(place))?;
-            assert_eq!(rt; name.bytes(), names[place as usize].as_bytes());
-        }
-    }
-    let paths = ["", "u~0~11", "u~0~11/v"];
-    for place in 0..3u32 {
-        if place < design.elems() {
-            let path = design.path(alloc, ElemId::of(place))?;
-            assert_eq!(rt; path.bytes(), paths[place as usize].as_bytes());
-            let weights = [1u64, 8, 2];
-            assert_eq!(rt; design.weight(ElemId::of(place)), weights[place as usize]);
-        }
-    }
-    let first = MemId::of(0);
-    if first.place() < design.mems() {
-        assert_eq!(rt; design.elem_of(first), ElemId::of(2));
-        assert_eq!(rt; design.mem(first).width, 1);
-    }
-    let clocked = ElemId::of(1);
-    if clocked.place() < design.elems() {
-        let Element::Flop(flop) = design.elem(clocked) else {
-            panic!(rt; "element 1 is the flip-flop");
-        };
-        assert_eq!(rt; flop.q, net(6));
-    }
-    assert_eq!(rt; (design.inputs().len(), design.outputs().len()), (1, 1));
-    Ok(())
-}
-
 /// Whether there is one output port, and places are numbers of 32 bits.
 fn is_countable(parts: &Parts) -> bool
     ensures { IsTrue result → IsCountable parts.now }
@@ -278,61 +207,208 @@ fn refuses(alloc: Global, parts: Parts, word: &str, place: u32, name: &str) -> b
     }
 }
 
+/// What is changed in those parts.
+#[derive(Clone, Copy, Drop)]
+enum Change {
+    Nothing,
+    /// One gate more, in the top: its operation, inputs and output.
+    Gate(Op, &'static [u32], u32),
+    /// One `and` more, of net 2 so many times, to an output.
+    Wide(u32, u32),
+    /// A second element for the memory.
+    Element,
+    Path,
+    Memory,
+    /// The net of the output.
+    Output(u32),
+}
+
+/// The gate of so many inputs.
+fn wide_gate(alloc: Global, inputs: u32, output: u32) -> Result<Element, NoMemory> {
+    let mut list = List::new(alloc);
+    for _ in 0..inputs {
+        list.push(net(2))?;
+    }
+    Ok(Element::Gate {
+        op: Op::And,
+        inputs: list,
+        output: net(output),
+    })
+}
+
+/// The parts with one element more, in the top.
+fn with_element(alloc: Global, element: Element) -> Result<Parts, NoMemory> {
+    let mut more = parts(alloc)?;
+    more.elements.push(element)?;
+    more.paths.push(0)?;
+    Ok(more)
+}
+
+/// The parts with one path more.
+fn with_path(alloc: Global) -> Result<Parts, NoMemory> {
+    let mut more = parts(alloc)?;
+    more.paths.push(0)?;
+    Ok(more)
+}
+
+/// The parts with one memory more.
+fn with_memory(alloc: Global) -> Result<Parts, NoMemory> {
+    let mut more = parts(alloc)?;
+    more.memories.push(memory(alloc)?)?;
+    Ok(more)
+}
+
+/// The parts with another output.
+fn with_output(alloc: Global, output: u32) -> Result<Parts, NoMemory> {
+    let mut other = parts(alloc)?;
+    other.outputs = port(alloc, b"y", &[output])?;
+    Ok(other)
+}
+
+fn changed(alloc: Global, change: &Change) -> Result<Parts, NoMemory> {
+    match change {
+        Change::Nothing => parts(alloc),
+        Change::Gate(op, inputs, output) => with_element(alloc, gate(alloc, *op, inputs, *output)?),
+        Change::Wide(inputs, output) => with_element(alloc, wide_gate(alloc, *inputs, *output)?),
+        Change::Element => with_element(alloc, Element::Memory(MemId::of(0))),
+        Change::Path => with_path(alloc),
+        Change::Memory => with_memory(alloc),
+        Change::Output(output) => with_output(alloc, *output),
+    }
+}
+
+/// Changes, and the fault that each must get: its kind, its number and its name.
+const REFUSED: [(Change, &str, u32, &str); 15] = [
+    // nets that are not there, and inputs or a table that the operation can't have
+    (Change::Gate(Op::And, &[2, 9], 4), "bad", 3, ""),
+    (Change::Gate(Op::And, &[2, 2], 9), "bad", 3, ""),
+    (Change::Gate(Op::And, &[], 4), "bad", 3, ""),
+    (Change::Gate(Op::Not, &[2, 3], 4), "bad", 3, ""),
+    (Change::Gate(Op::Table(16), &[2, 3], 4), "bad", 3, ""),
+    (Change::Element, "bad", 3, ""),
+    // the rest
+    (Change::Path, "bad", 3, ""),
+    (Change::Memory, "bad", 3, ""),
+    (Change::Output(9), "bad", 3, ""),
+    // a limit comes before two drivers, and those before a net without one
+    (Change::Wide(65, 6), "inputs", 0, ""),
+    (Change::Gate(Op::Buf, &[8], 6), "twice", 6, "u~0~11/q/~[6]"),
+    (Change::Gate(Op::Buf, &[2], 1), "twice", 1, "1'b1"),
+    (Change::Gate(Op::Buf, &[2], 2), "twice", 2, "a[2]"),
+    (Change::Gate(Op::Buf, &[8], 4), "undriven", 8, "u~0~11/z"),
+    (Change::Output(4), "undriven", 4, "w"),
+];
+
+#[test]
+fn the_first_fault_is_told(rt: HostRuntime) -> Result<(), Fail> {
+    let alloc = rt.alloc();
+    for (change, word, place, name) in &REFUSED {
+        let parts = changed(alloc, change)?;
+        assert!(rt; refuses(alloc, parts, word, *place, name), "{word} {place}");
+    }
+    Ok(())
+}
+
 /// Whether building gives a design.
 fn stands(alloc: Global, parts: Parts) -> bool {
     is_countable(&parts) && Design::build(alloc, parts).is_ok()
 }
 
+/// Changes that leave the parts sound.
+const TAKEN: [Change; 4] = [
+    Change::Nothing,
+    Change::Wide(64, 4),
+    Change::Gate(Op::Table(15), &[2, 3], 8),
+    Change::Output(0),
+];
+
 #[test]
-fn bad_elements_are_told(rt: HostRuntime) -> Result<(), Fail> {
+fn sound_parts_are_built(rt: HostRuntime) -> Result<(), Fail> {
     let alloc = rt.alloc();
-    assert!(rt; stands(alloc, parts(alloc)?));
-    // an element that names no net of the design, and one that is wrong in its number of inputs
-    for (inputs, output) in [([2u32, 9].as_slice(), 4), (&[2, 2], 9), (&[], 4)] {
-        let bad = with_gate(alloc, Op::And, inputs, output)?;
-        assert!(rt; refuses(alloc, bad, "bad", 3, ""));
+    for change in &TAKEN {
+        let parts = changed(alloc, change)?;
+        assert!(rt; stands(alloc, parts));
     }
-    let bad = with_gate(alloc, Op::Not, &[2, 3], 4)?;
-    assert!(rt; refuses(alloc, bad, "bad", 3, ""));
-    let bad = with_gate(alloc, Op::Table(16), &[2, 3], 4)?;
-    assert!(rt; refuses(alloc, bad, "bad", 3, ""));
     Ok(())
 }
 
-#[test]
-fn lists_around_the_elements_are_judged(rt: HostRuntime) -> Result<(), Fail> {
-    let alloc = rt.alloc();
-    // a second element for the memory
-    let mut bad = parts(alloc)?;
-    bad.elements.push(Element::Memory(MemId::of(0)))?;
-    bad.paths.push(0)?;
-    assert!(rt; refuses(alloc, bad, "bad", 3, ""));
-    // a path too many, a memory too many, an output that is not there
-    let mut bad = parts(alloc)?;
-    bad.paths.push(0)?;
-    assert!(rt; refuses(alloc, bad, "bad", 3, ""));
-    let mut bad = parts(alloc)?;
-    bad.memories.push(memory(alloc)?)?;
-    assert!(rt; refuses(alloc, bad, "bad", 3, ""));
-    let mut bad = parts(alloc)?;
-    bad.outputs = port(alloc, b"y", &[9])?;
-    assert!(rt; refuses(alloc, bad, "bad", 3, ""));
-    Ok(())
+/// Whether a net has this driver and this name.
+fn net_is(
+    alloc: Global,
+    design: &Design,
+    place: u32,
+    driver: Driver,
+    name: &str,
+) -> Result<bool, NoMemory> {
+    if place >= design.nets() {
+        return Ok(false);
+    }
+    let told = design.net_name(alloc, net(place))?;
+    Ok(design.driver(net(place)) == driver && told.bytes() == name.as_bytes())
+}
+
+/// Whether an element has this weight and this path.
+fn elem_is(
+    alloc: Global,
+    design: &Design,
+    place: u32,
+    weight: u64,
+    path: &str,
+) -> Result<bool, NoMemory> {
+    let id = ElemId::of(place);
+    if place >= design.elems() {
+        return Ok(false);
+    }
+    let told = design.path(alloc, id)?;
+    Ok(design.weight(id) == weight && told.bytes() == path.as_bytes())
+}
+
+/// Whether the one memory and the flip-flop are where they should be.
+fn items_stand(design: &Design) -> bool {
+    if design.mems() != 1 || design.elems() != 3 {
+        return false;
+    }
+    let Element::Flop(flop) = design.elem(ElemId::of(1)) else {
+        return false;
+    };
+    flop.q == net(6)
+        && design.elem_of(MemId::of(0)) == ElemId::of(2)
+        && design.mem(MemId::of(0)).width == 1
+}
+
+/// The drivers and names of the nets.
+const NETS: [(Driver, &str); 9] = [
+    (Driver::Constant(false), "1'b0"),
+    (Driver::Constant(true), "1'b1"),
+    (Driver::Input, "a[2]"),
+    (Driver::Input, "a[3]"),
+    (Driver::Constant(false), "w"),
+    (Driver::Elem(ElemId { place: 0 }), "n"),
+    (Driver::Elem(ElemId { place: 1 }), "u~0~11/q/~[6]"),
+    (Driver::Read(MemId { place: 0 }, 0, 0), "y"),
+    (Driver::Constant(false), "u~0~11/z"),
+];
+
+/// The answers of the readers of a design of those parts.
+fn readers_answer(alloc: Global, design: &Design) -> Result<bool, NoMemory> {
+    let mut right = design.nets() == 9 && items_stand(design);
+    for (place, (driver, name)) in NETS.iter().enumerate() {
+        right = right && net_is(alloc, design, place as u32, *driver, name)?;
+    }
+    for (place, weight, path) in [(0u32, 1u64, ""), (1, 8, "u~0~11"), (2, 2, "u~0~11/v")] {
+        right = right && elem_is(alloc, design, place, weight, path)?;
+    }
+    Ok(right && design.inputs().len() == 1 && design.outputs().len() == 1)
 }
 
 #[test]
-fn limits_come_before_drivers(rt: HostRuntime) -> Result<(), Fail> {
+fn readers_give_the_parts(rt: HostRuntime) -> Result<(), Fail> {
     let alloc = rt.alloc();
-    let many = [2u32; 65];
-    let wide = with_gate(alloc, Op::And, &many[..64], 4)?;
-    assert!(rt; stands(alloc, wide));
-    let wide = with_gate(alloc, Op::And, &many, 6)?;
-    assert!(rt; refuses(alloc, wide, "inputs", 0, ""));
-    let twice = with_gate(alloc, Op::Buf, &[8], 6)?;
-    assert!(rt; refuses(alloc, twice, "twice", 6, "u~0~11/q/~[6]"));
-    let twice = with_gate(alloc, Op::Buf, &[2], 1)?;
-    assert!(rt; refuses(alloc, twice, "twice", 1, "1'b1"));
-    let undriven = with_gate(alloc, Op::Buf, &[8], 4)?;
-    assert!(rt; refuses(alloc, undriven, "undriven", 8, "u~0~11/z"));
+    let sound = parts(alloc)?;
+    assert!(rt; is_countable(&sound));
+    match Design::build(alloc, sound) {
+        Ok(design) => assert!(rt; readers_answer(alloc, &design)?),
+        Err(_fault) => panic!(rt; "the parts are sound"),
+    }
     Ok(())
 }

@@ -1,12 +1,10 @@
 //! Commands over texts in memory: how each ends, and what it prints, to the byte.
 
-mod judged;
-mod refused;
+mod cases;
 
 use crate::{Status, run};
+use cases::{ACCEPTED, Case, REFUSED, REJECTED, REJECTED_LATE};
 use emu_io::{List, MemFiles, MemSink, NoMemory, Text, Word};
-use judged::JUDGED;
-use refused::REFUSED;
 use std::alloc::Global;
 use std::test::Fail;
 
@@ -178,17 +176,6 @@ fn faults_of_the_design_are_told_with_their_bytes(rt: HostRuntime) -> Result<(),
     Ok(())
 }
 
-/// How a command ends that prints this.
-fn status_of(printed: &[u8]) -> Status {
-    if printed.starts_with(b"accepted") {
-        Status::Ok
-    } else if printed.starts_with(b"rejected") {
-        Status::Rejected
-    } else {
-        Status::Refused
-    }
-}
-
 /// What comes of the check of six texts.
 fn end_of_case(alloc: Global, texts: &[&'static [u8]; 6]) -> Result<Outcome, NoMemory> {
     let mut files = inverter(alloc, &[])?;
@@ -201,18 +188,33 @@ fn end_of_case(alloc: Global, texts: &[&'static [u8]; 6]) -> Result<Outcome, NoM
     end_of(alloc, CHECK, &mut files, &[])
 }
 
-#[test]
-fn cases_of_other_programs_end_as_told(rt: HostRuntime) -> Result<(), Fail> {
-    for (texts, printed) in JUDGED.iter().chain(REFUSED.iter()) {
-        let ended = end_of_case(rt.alloc(), texts)?;
-        assert_eq!(rt;
-            ended.out.written(),
-            *printed,
-            "{}",
-            texts[0].escape_ascii()
-        );
-        assert_eq!(rt; ended.status, status_of(printed));
+/// Whether each case prints what is told, and ends so.
+fn end_as_told(alloc: Global, cases: &[Case], status: Status) -> Result<bool, NoMemory> {
+    for (texts, printed) in cases {
+        let ended = end_of_case(alloc, texts)?;
+        if ended.out.written() != *printed || ended.status != status {
+            return Ok(false);
+        }
     }
+    Ok(true)
+}
+
+#[test]
+fn accepted_cases_end_as_told(rt: HostRuntime) -> Result<(), Fail> {
+    assert!(rt; end_as_told(rt.alloc(), &ACCEPTED, Status::Ok)?);
+    Ok(())
+}
+
+#[test]
+fn rejected_cases_end_as_told(rt: HostRuntime) -> Result<(), Fail> {
+    assert!(rt; end_as_told(rt.alloc(), &REJECTED, Status::Rejected)?);
+    assert!(rt; end_as_told(rt.alloc(), &REJECTED_LATE, Status::Rejected)?);
+    Ok(())
+}
+
+#[test]
+fn refused_cases_end_as_told(rt: HostRuntime) -> Result<(), Fail> {
+    assert!(rt; end_as_told(rt.alloc(), &REFUSED, Status::Refused)?);
     Ok(())
 }
 
