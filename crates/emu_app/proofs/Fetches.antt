@@ -15,7 +15,7 @@ use Rattle.emu_app.specs.Command.{CommandWords, Reads, name_of, place_of, text_a
 use Rattle.emu_io.specs.Faults.{Rose}
 use Rattle.emu_app.specs.declared.fetch.Stop.{Stop}
 use Rattle.emu_app.specs.declared.fetch.Stop.TheVariants as stop
-use Rattle.emu_app.specs.Fetching.{AreWithin, EarlierAreHeld, FetchFailed, FirstTooLarge, IsHeld, IsTooLarge, LargeMeans, NotThere, ReadFails, TextFails, TextsFail, texts_of}
+use Rattle.emu_app.specs.Fetching.{AreWithin, EarlierAreHeld, EarlierAreThere, FetchFailed, FirstTooLarge, IsHeld, IsTooLarge, LargeMeans, NotThere, ReadFails, TextFails, TextsFail, texts_of}
 
 -- the first texts, so many, are held and within their limits
 abbrev pub FirstAreHeld : Held → CommandWords → ℕ → List (List ℕ) → Type 0
@@ -207,7 +207,11 @@ text_stops told-mid told-old before mid now blamed stores stores-old n place tex
     let reads : Reads n.command what = omega (arith, here, inside) in
     let cause : NotThere told-old mid now blamed (name_of n what) = subst (λ t. NotThere t mid now blamed (name_of n what)) so.held_same (subst (λ w. NotThere told-mid mid now blamed w) named means.1) in
     subst (ReadFails told-old before now blamed n) (sym means.0)
-    (record { reads = reads; cause = not_there_since told-old before mid now blamed (name_of n what) so.later cause })
+    (record { reads = reads; earlier = go told-old so.held here; cause = not_there_since told-old before mid now blamed (name_of n what) so.later cause })
+  where
+    go : (t : Option Held) → IfSome t (λ held. FirstAreHeld held n place texts) → place_of n.command what ≡ place → EarlierAreThere t n what
+    go None first here = tt
+    go (Some held) first here = λ other earlier. (texts_of n.command texts other, first other (omega (arith, here, earlier)))
 text_stops told-mid told-old before mid now blamed stores stores-old n place texts what (stop.TooLarge other) name so inside is named means =
     let here : place_of n.command what ≡ place = place_is n.command place what is inside in
     let reads : Reads n.command what = omega (arith, here, inside) in

@@ -69,9 +69,14 @@ FirstTooLarge told before now n what =
     Reads n.command what
     × MatchOption told (Rose before now) (λ held. IsTooLarge held (name_of n what) what × EarlierAreHeld held n what)
 
--- the text of this place is one that the command reads, and could not be fetched
+-- each text before this one is there, where the files tell what they hold
+abbrev pub EarlierAreThere : Option Held → CommandWords → What → Type 0
+EarlierAreThere told n what = IfSome told (λ held. EarlierAreHeld held n what)
+
+-- this text, which the command reads, is the first that could not be fetched
 pub record ReadFails (told : Option Held) (before now : ℕ) (blamed : Option (List ℕ)) (n : CommandWords) (what : What) : Type 0 where
   pub reads : Reads n.command what
+  pub earlier : EarlierAreThere told n what
   pub cause : NotThere told before now blamed (name_of n what)
 
 -- why not all texts were fetched

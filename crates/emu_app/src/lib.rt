@@ -21,6 +21,7 @@ mod status;
 mod top;
 mod what;
 
+pub use laws::{refused_texts_stand_for_nothing, texts_tell_cases_apart};
 pub use status::Status;
 pub use top::run;
 
