@@ -3,6 +3,7 @@ pub mod Faults
 pub mod Index
 pub mod Lines
 pub mod Openings
+pub mod Runs
 pub mod Settings
 pub mod Traces
 pub mod Values

@@ -107,6 +107,14 @@ impl<'a> Settled<'a> {
         self.nets[net.place() as usize]
     }
 
+    /// The values of all nets, by number.
+    pub fn values(&self) -> &[bool]
+        ensures values { result.now ≡ self.now.nets }
+        ensures size { length result.now ≡ net_count self.now.parts }
+    {
+        self.nets.as_slice()
+    }
+
     /// The word of a memory at an address.
     pub fn word(&self, mem: MemId, address: u32) -> u128
         requires { IsAddress self.now.parts mem.place address }

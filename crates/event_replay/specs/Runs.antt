@@ -1,0 +1,83 @@
+-- The traces of the original and of the machine, and what stands where a line of one could not be put.
+-- The rule is told in docs/FORMATS.md, "Traces".
+use Rattle.std.specs.Prelude.{◌≡◌, ◌≤◌, ◌+◌, ℕ, Bool, List, [], ◌∷◌, ◌++◌, map, take, length, Option, Result, Ok, Err}
+use Rattle.id_arena.specs.declared.wire.Wire.{Wire}
+use Rattle.design_core.specs.declared.parts.Parts.{Parts}
+use Rattle.design_core.specs.declared.parts.Port.{Port}
+use Rattle.design_core.specs.declared.values.Event.{Event}
+use Rattle.design_core.specs.declared.values.PortBit.{PortBit}
+use Rattle.design_core.specs.Design.{port_bits}
+use Rattle.design_core.specs.Event.{Follow}
+use Rattle.design_core.specs.Valuation.{Valuation, values}
+use Rattle.emu_io.specs.declared.files.StoreFault.{StoreFault}
+use Rattle.emu_io.specs.declared.files.StoreFault.TheVariants as store
+use Rattle.emu_io.specs.Faults.{Rose}
+use Rattle.emu_io.specs.Sink.{AppendsWhereTold}
+use Rattle.emu_machine.specs.declared.results.Results.{Results}
+use Rattle.emu_machine.specs.Headline.{event_values}
+use Rattle.emu_machine.specs.State.{State, net_value, run_of}
+use Rattle.event_replay.specs.Traces.{trace_line_of, trace_of}
+
+-- what a valuation shows at the output bits of a design
+abbrev pub outputs_of : Parts → Valuation → List Bool
+outputs_of p v = values v (port_bits p.outputs)
+
+-- what a state of the machine shows at the nets that the map names for the output bits
+abbrev pub spots_of : Results → State → List Bool
+spots_of r x = map (λ spot. net_value r.net x spot.chip.place spot.net.place) r.map.outputs
+
+-- the trace of the original: what the valuations after the events show
+abbrev pub settled_trace : Parts → List Valuation → List ℕ
+settled_trace p vs = trace_of p.outputs (map (outputs_of p) vs)
+
+-- the trace of the machine: what its states after the events show
+abbrev pub machine_trace : Parts → Results → List State → List ℕ
+machine_trace p r xs = trace_of p.outputs (map (spots_of r) xs)
+
+-- the last of some things that follow a first one; the first one where nothing follows
+abbrev pub final : {A : Type 0} → A → List A → A
+final x [] = x
+final x (y ∷ ys) = final y ys
+
+-- A trace that breaks off in its last line: the lines before it are written whole, and some first bytes
+-- of it may follow.
+pub record BreaksOff (outputs : List Port) (shown : List (List Bool)) (old new : Option (List ℕ)) : Type 0 where
+  pub before : List (List Bool)
+  pub last : List Bool
+  pub are : shown ≡ before ++ last ∷ []
+  pub count : ℕ
+  pub some : count ≤ length (trace_line_of (length before + 1) outputs last)
+  pub text : AppendsWhereTold old (trace_of outputs before ++ take count (trace_line_of (length before + 1) outputs last)) new
+
+-- a failure shows in the sink's count; want of memory shows nowhere
+abbrev pub Shows : StoreFault → ℕ → ℕ → Type 0
+Shows store.Failed before now = Rose before now
+Shows store.NoMemory before now = Unit {0}
+
+-- the first events, so many of them, led from one valuation to another over these
+pub record HaveSettled (p : Parts) (v : Valuation) (events : List Event) (count : ℕ) (vs : List Valuation) (now : Valuation) : Type 0 where
+  pub within : count ≤ length events
+  pub follow : Follow p v (event_values (take count events)) vs
+  pub last : now ≡ final v vs
+
+-- By the answer of running events on the original: Ok where all are done and their trace is written. After
+-- a fault in the line of an event, the events up to it are done, and the trace breaks off in that line.
+abbrev pub SettleMeans : {X : Type 0} → Parts → List Event → Valuation → Valuation → Option (List ℕ) → Option (List ℕ) → ℕ → ℕ → Result X StoreFault → Type 0
+SettleMeans p events v now old new before after (Ok done) =
+    (vs : List Valuation) × HaveSettled p v events (length events) vs now × AppendsWhereTold old (settled_trace p vs) new
+SettleMeans p events v now old new before after (Err fault) =
+    Shows fault before after
+    × ((count : ℕ) × (vs : List Valuation) × HaveSettled p v events count vs now × BreaksOff p.outputs (map (outputs_of p) vs) old new)
+
+-- the first events, so many of them, led the machine from one state to another
+pub record HasRun (r : Results) (wires : List Wire) (x : State) (events : List Event) (count : ℕ) (now : State) : Type 0 where
+  pub within : count ≤ length events
+  pub last : now ≡ final x (run_of r wires x (take count events))
+
+-- the same for the machine
+abbrev pub ReplayMeans : {X : Type 0} → Parts → Results → List Wire → List Event → State → State → Option (List ℕ) → Option (List ℕ) → ℕ → ℕ → Result X StoreFault → Type 0
+ReplayMeans p r wires events x now old new before after (Ok done) =
+    HasRun r wires x events (length events) now × AppendsWhereTold old (machine_trace p r (run_of r wires x events)) new
+ReplayMeans p r wires events x now old new before after (Err fault) =
+    Shows fault before after
+    × ((count : ℕ) × HasRun r wires x events count now × BreaksOff p.outputs (map (spots_of r) (run_of r wires x (take count events))) old new)
