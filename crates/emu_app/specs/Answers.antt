@@ -1,6 +1,9 @@
 -- What commands answer, and when each answer comes.
 -- The rules are told in docs/FORMATS.md, "Commands" and "Printed texts".
-use Rattle.std.specs.Prelude.{◌≡◌, ◌≤◌, ℕ, List, length, take, Option, IfSome}
+use Rattle.std.specs.Prelude.{◌≡◌, ◌≤◌, ◌⊎◌, ℕ, List, length, take, Option, Result, Ok, Err, IfSome}
+use Rattle.design_core.specs.declared.parts.Parts.{Parts}
+use Rattle.emu_io.specs.declared.files.StoreFault.{StoreFault}
+use Rattle.emu_io.specs.declared.files.StoreFault.TheVariants as store
 use Rattle.emu_io.specs.Files.{Held}
 use Rattle.emu_io.specs.Faults.{Rose}
 use Rattle.emu_io.specs.Sink.{AppendsWhereTold}
@@ -10,14 +13,18 @@ use Rattle.emu_machine.specs.Headline.{Headline}
 use Rattle.emu_app.specs.declared.answer.Answer.{Answer}
 use Rattle.emu_app.specs.declared.answer.Answer.TheVariants as answer
 use Rattle.emu_app.specs.declared.command.Command.{Command}
-use Rattle.emu_app.specs.declared.command.Command.TheVariants.{Check}
+use Rattle.emu_app.specs.declared.command.Command.TheVariants.{Check, Settle, Replay}
+use Rattle.emu_app.specs.declared.ending.Ending.{Ending}
+use Rattle.emu_app.specs.declared.ending.Ending.TheVariants as ending
+use Rattle.emu_app.specs.declared.recording.Recording.{Recording}
 use Rattle.emu_app.specs.declared.what.What.{What}
 use Rattle.emu_app.specs.declared.status.Status.{Status}
 use Rattle.emu_app.specs.declared.status.Status.TheVariants as status
 use Rattle.emu_app.specs.Command.{CommandWords, IsCommand, IsNoCommand, name_of}
 use Rattle.emu_app.specs.Fetching.{Texts, AreHeld, ReadFails, FirstTooLarge}
 use Rattle.emu_app.specs.Printing.{text_of, status_of}
-use Rattle.emu_app.specs.Reading.{StandForOne, Refuses}
+use Rattle.emu_app.specs.Reading.{StandForOne, StandForOneRun, StandForOneReplay, Refuses}
+use Rattle.emu_app.specs.Runs.{IsHistoryTrace, IsMachineTrace, CanReplay}
 
 -- The texts stand for one case, and the rules A1 to A12 hold for it: then the machine agrees with the
 -- design after every event, for every opening and every list of events. The schedule is that of the case.
@@ -34,6 +41,13 @@ pub record Rejects (top : List ℕ) (texts : Texts) : Type 0 where
   pub stand : StandForOne top texts judged
   pub rejected : IsAccepted judged → ⊥
 
+-- the texts stand for one case and recording, and one of the rules A1 to A9 fails for the case
+pub record RejectsReplay (top : List ℕ) (texts : Texts) : Type 0 where
+  pub judged : Case
+  pub recording : Recording
+  pub stand : StandForOneReplay top texts judged recording
+  pub rejected : CanReplay judged → ⊥
+
 -- what judging the texts comes to; it is no matter of other answers
 abbrev pub JudgeMeans : List ℕ → Texts → Answer → Type 0
 JudgeMeans top texts (answer.Accepted schedule) = Accepts top texts schedule
@@ -41,16 +55,55 @@ JudgeMeans top texts answer.Rejected = Rejects top texts
 JudgeMeans top texts (answer.Refused why) = Refuses Check top texts why
 JudgeMeans top texts other = ⊥
 
--- what the command makes of the texts
+-- why the original's trace is not begun
+abbrev pub SettleMeans : List ℕ → Texts → Answer → Type 0
+SettleMeans top texts (answer.Refused why) = Refuses Settle top texts why
+SettleMeans top texts other = ⊥
+
+-- why the machine's trace is not begun
+abbrev pub ReplayMeans : List ℕ → Texts → Answer → Type 0
+ReplayMeans top texts answer.Rejected = RejectsReplay top texts
+ReplayMeans top texts (answer.Refused why) = Refuses Replay top texts why
+ReplayMeans top texts other = ⊥
+
+-- what the command answers to the texts
 abbrev pub WorkMeans : Command → List ℕ → Texts → Answer → Type 0
 WorkMeans Check top texts found = JudgeMeans top texts found
-WorkMeans other top texts found = ⊥
+WorkMeans Settle top texts found = SettleMeans top texts found
+WorkMeans Replay top texts found = ReplayMeans top texts found
+
+-- the texts stand for one design and recording, and this is the trace of its history
+pub record Settles (top : List ℕ) (texts : Texts) (trace : List ℕ) : Type 0 where
+  pub design : Parts
+  pub recording : Recording
+  pub stand : StandForOneRun top texts design recording
+  pub is : IsHistoryTrace design recording trace
+
+-- the texts stand for one case and recording, the rules A1 to A9 hold, and this is the machine's trace
+pub record Replays (top : List ℕ) (texts : Texts) (trace : List ℕ) : Type 0 where
+  pub judged : Case
+  pub recording : Recording
+  pub stand : StandForOneReplay top texts judged recording
+  pub fit : CanReplay judged
+  pub is : IsMachineTrace judged recording trace
+
+-- the trace that the command prints of the texts; `check` prints none
+abbrev pub TraceMeans : Command → List ℕ → Texts → List ℕ → Type 0
+TraceMeans Check top texts trace = ⊥
+TraceMeans Settle top texts trace = Settles top texts trace
+TraceMeans Replay top texts trace = Replays top texts trace
 
 -- the texts that are held under these names, which are all there and within their limits, come to an answer
 pub record HeldMeans (held : Held) (n : CommandWords) (found : Answer) : Type 0 where
   pub texts : Texts
   pub are_held : AreHeld held n texts
   pub means : WorkMeans n.command n.top texts found
+
+-- the texts that are held under these names, which are all there and within their limits, have this trace
+pub record HeldTrace (held : Held) (n : CommandWords) (trace : List ℕ) : Type 0 where
+  pub texts : Texts
+  pub are_held : AreHeld held n texts
+  pub means : TraceMeans n.command n.top texts trace
 
 -- a text of the command could not be fetched, and its name is printed
 pub record NameFails (told : Option Held) (before now : ℕ) (blamed : Option (List ℕ)) (n : CommandWords) (name : List ℕ) : Type 0 where
@@ -76,6 +129,12 @@ abbrev pub CommandMeans : Option Held → ℕ → ℕ → Option (List ℕ) → 
 CommandMeans told before now blamed words answer.Usage = IsNoCommand words
 CommandMeans told before now blamed words found = IsFound told before now blamed words found
 
+-- the words are those of a command, and this is its trace
+pub record IsTraced (told : Option Held) (words : List (List ℕ)) (trace : List ℕ) : Type 0 where
+  pub names : CommandWords
+  pub shape : IsCommand words names
+  pub means : IfSome told (λ held. HeldTrace held names trace)
+
 -- what is written of an answer's text: all of it
 pub record Prints (Means : Answer → Type 0) (old new : Option (List ℕ)) (ended : Status) : Type 0 where
   pub found : Answer
@@ -92,10 +151,41 @@ pub record PrintFails (Means : Answer → Type 0) (old new : Option (List ℕ)) 
   pub some : count ≤ length (text_of found)
   pub text : AppendsWhereTold old (take count (text_of found)) new
 
--- By the status. `WriteFault` comes where a put failed; want of memory leaves what was written; with any
--- other status the whole text of an answer of that status is written.
-abbrev pub Ends : (Answer → Type 0) → Option (List ℕ) → Option (List ℕ) → ℕ → ℕ → Status → Type 0
-Ends Means old new before now status.WriteFault = PrintFails Means old new before now
-Ends Means old new before now status.NoMemory = new ≡ old
-Ends Means old new before now status.NoFit = ⊥
-Ends Means old new before now ended = Prints Means old new ended
+-- what is written of a trace: all of it
+pub record WritesTrace (Means : List ℕ → Type 0) (old new : Option (List ℕ)) : Type 0 where
+  pub trace : List ℕ
+  pub means : Means trace
+  pub text : AppendsWhereTold old trace new
+
+-- what is written of a trace that could not be ended: some first bytes of it
+pub record TraceStops (Means : List ℕ → Type 0) (old new : Option (List ℕ)) : Type 0 where
+  pub trace : List ℕ
+  pub means : Means trace
+  pub count : ℕ
+  pub some : count ≤ length trace
+  pub text : AppendsWhereTold old (take count trace) new
+
+-- By the end of a command's work: an answer, before anything is written; or a trace, which is written whole
+-- or stops where a put failed or memory was wanting.
+abbrev pub Comes : (Answer → Type 0) → (List ℕ → Type 0) → Option (List ℕ) → Option (List ℕ) → ℕ → ℕ → Result Ending StoreFault → Type 0
+Comes Means Runs old new before now (Ok (ending.Answered found)) = Means found × (new ≡ old) × (now ≡ before)
+Comes Means Runs old new before now (Ok ending.Traced) = WritesTrace Runs old new
+Comes Means Runs old new before now (Err store.Failed) = Rose before now × TraceStops Runs old new
+Comes Means Runs old new before now (Err store.NoMemory) = (new ≡ old) ⊎ TraceStops Runs old new
+
+-- By the status. Ok comes with the whole text of an answer, or with a whole trace. `WriteFault` comes where a
+-- put failed, and then some first bytes of what was due are written. Where memory was wanting, nothing is
+-- written, or some first bytes of a trace. With any other status the whole text of an answer of that status
+-- is written.
+abbrev pub Ends : (Answer → Type 0) → (List ℕ → Type 0) → Option (List ℕ) → Option (List ℕ) → ℕ → ℕ → Status → Type 0
+Ends Means Runs old new before now status.Ok = Prints Means old new status.Ok ⊎ WritesTrace Runs old new
+Ends Means Runs old new before now status.WriteFault = PrintFails Means old new before now ⊎ (Rose before now × TraceStops Runs old new)
+Ends Means Runs old new before now status.NoMemory = (new ≡ old) ⊎ TraceStops Runs old new
+Ends Means Runs old new before now status.NoFit = ⊥
+Ends Means Runs old new before now ended = Prints Means old new ended
+
+-- where the twelve rules hold, `settle` and `replay` print one trace
+abbrev pub SettleAndReplayAgree : Type 0
+SettleAndReplayAgree =
+    (top : List ℕ) (texts : Texts) (settled replayed : List ℕ) (run : Replays top texts replayed)
+    → IsAccepted run.judged → Settles top texts settled → replayed ≡ settled

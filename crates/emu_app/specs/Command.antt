@@ -14,15 +14,9 @@ command_word Check = codes "check"
 command_word Settle = codes "settle"
 command_word Replay = codes "replay"
 
--- whether a command is built so far
-abbrev pub is_built : Command → Bool
-is_built Check = true
-is_built Settle = false
-is_built Replay = false
-
--- a command that is built has this word
+-- a command has this word
 abbrev pub IsNamed : Command → List ℕ → Type 0
-IsNamed command word = (command_word command ≡ word) × (is_built command ≡ true)
+IsNamed command word = command_word command ≡ word
 
 -- how many texts a command reads
 abbrev pub text_count : Command → ℕ
@@ -88,9 +82,8 @@ name_of n what = unwrap_or (slice_get n.names (place_of n.command what)) []
 pub record IsCommand (words : List (List ℕ)) (n : CommandWords) : Type 0 where
   pub shape : words ≡ command_word n.command ∷ n.top ∷ n.names
   pub count : length n.names ≡ text_count n.command
-  pub built : is_built n.command ≡ true
 
--- the words are those of no command that is built so far
+-- the words are those of no command
 abbrev pub IsNoCommand : List (List ℕ) → Type 0
 IsNoCommand words = (n : CommandWords) → IsCommand words n → ⊥
 

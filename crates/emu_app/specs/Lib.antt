@@ -6,6 +6,7 @@ pub mod Faults
 pub mod Cycles
 pub mod Printing
 pub mod Reading
+pub mod Runs
 pub mod Answers
 pub mod Cases
 pub mod Outcomes

@@ -5,10 +5,13 @@ use Rattle.emu_io.specs.Files.{Held}
 use Rattle.emu_machine.specs.Acceptance.{Case, IsAccepted}
 use Rattle.emu_machine.specs.Headline.{Headline}
 use Rattle.emu_app.specs.declared.command.Command.{Command}
-use Rattle.emu_app.specs.declared.command.Command.TheVariants.{Check}
+use Rattle.emu_app.specs.declared.command.Command.TheVariants.{Check, Settle, Replay}
 use Rattle.emu_app.specs.Command.{CommandWords, IsCommand}
 use Rattle.emu_app.specs.Fetching.{Texts, AreHeld}
-use Rattle.emu_app.specs.Reading.{StandForOne}
+use Rattle.emu_app.specs.declared.recording.Recording.{Recording}
+use Rattle.emu_app.specs.Reading.{StandForOne, StandForOneReplay}
+use Rattle.emu_app.specs.Runs.{CanReplay}
+use Rattle.emu_app.specs.Answers.{HeldTrace, WritesTrace}
 
 -- the texts that are held under the names stand for one case alone, the rules A1 to A12 hold for it, and so
 -- the machine agrees with the design after every event, for every opening and every list of events
@@ -28,21 +31,32 @@ pub record HoldsRejected (n : CommandWords) (held : Held) : Type 0 where
   pub stand : StandForOne n.top texts judged
   pub rejected : IsAccepted judged → ⊥
 
--- what Ok says by the command
-abbrev pub OkHolds : Command → CommandWords → Held → Type 0
-OkHolds Check n held = HoldsAccepted n held
-OkHolds other n held = ⊥
+-- the texts that are held under the names stand for one case and recording alone, and one of the rules A1 to
+-- A9 fails for the case
+pub record HoldsUnfit (n : CommandWords) (held : Held) : Type 0 where
+  pub texts : Texts
+  pub are_held : AreHeld held n texts
+  pub judged : Case
+  pub recording : Recording
+  pub stand : StandForOneReplay n.top texts judged recording
+  pub rejected : CanReplay judged → ⊥
 
--- what Rejected says by the command
+-- what Ok says by the command: results are accepted, or the trace of what is held is written
+abbrev pub OkHolds : Command → CommandWords → Option (List ℕ) → Option (List ℕ) → Held → Type 0
+OkHolds Check n old new held = HoldsAccepted n held
+OkHolds other n old new held = WritesTrace (HeldTrace held n) old new
+
+-- what Rejected says by the command; `settle` judges nothing
 abbrev pub RejectedHolds : Command → CommandWords → Held → Type 0
 RejectedHolds Check n held = HoldsRejected n held
-RejectedHolds other n held = ⊥
+RejectedHolds Settle n held = ⊥
+RejectedHolds Replay n held = HoldsUnfit n held
 
 -- the words are those of a command, and where the files tell what they hold, it did its work
-pub record IsOk (told : Option Held) (words : List (List ℕ)) : Type 0 where
+pub record IsOk (told : Option Held) (words : List (List ℕ)) (old new : Option (List ℕ)) : Type 0 where
   pub names : CommandWords
   pub shape : IsCommand words names
-  pub held : IfSome told (OkHolds names.command names)
+  pub held : IfSome told (OkHolds names.command names old new)
 
 -- the words are those of a command, and where the files tell what they hold, it rejects results
 pub record IsRejected (told : Option Held) (words : List (List ℕ)) : Type 0 where

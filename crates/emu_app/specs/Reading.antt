@@ -3,7 +3,11 @@
 use Rattle.std.specs.Prelude.{◌≡◌, ◌<◌, ℕ, List, [], ◌∷◌, Result, Ok, Err}
 use Rattle.design_core.specs.declared.parts.Parts.{Parts}
 use Rattle.design_core.specs.Dependency.{IsRanked}
+use Rattle.design_core.specs.declared.values.Event.{Event}
+use Rattle.design_core.specs.declared.values.PortBit.{PortBit}
 use Rattle.domain_groups.specs.NoGroups.{SaysNoGroups}
+use Rattle.event_replay.specs.Events.{SaysEvents}
+use Rattle.event_replay.specs.Openings.{SaysOpening}
 use Rattle.result_files.specs.PlainSchedule.{SaysSchedule}
 use Rattle.result_files.specs.PlainMap.{SaysMap}
 use Rattle.emu_machine.specs.declared.netlist.Chip.{Chip}
@@ -13,10 +17,11 @@ use Rattle.emu_machine.specs.declared.results.Results.{Results}
 use Rattle.emu_machine.specs.Acceptance.{Case}
 use Rattle.schedule_check.specs.Verdict.{plain_case}
 use Rattle.emu_app.specs.declared.command.Command.{Command}
-use Rattle.emu_app.specs.declared.command.Command.TheVariants.{Check}
+use Rattle.emu_app.specs.declared.command.Command.TheVariants.{Check, Settle, Replay}
 use Rattle.emu_app.specs.declared.what.What.{What}
 use Rattle.emu_app.specs.declared.what.What.TheVariants.{Design, Cells, Groups, Board, Netlist, Schedule as ScheduleText, Map, Opening, Events}
 use Rattle.emu_app.specs.declared.plan_texts.OneChip.{OneChip}
+use Rattle.emu_app.specs.declared.recording.Recording.{Recording}
 use Rattle.emu_app.specs.declared.design_text.Parsed.{Parsed}
 use Rattle.emu_app.specs.declared.refusal.Refusal.{Refusal}
 use Rattle.emu_app.specs.declared.refusal.Refusal.TheVariants as refusal
@@ -28,6 +33,7 @@ use Rattle.emu_app.specs.Fetching.{Texts}
 use Rattle.emu_app.specs.Faults.{HasFault}
 use Rattle.emu_app.specs.Cycles.{HasCycle}
 use Rattle.emu_app.specs.Forms.{IsTreeOf, HasTree, SaysDesign, SaysBoard, SaysNetlist}
+use Rattle.emu_app.specs.Runs.{DesignSays, RecordingSays}
 
 -- the text says nothing of its form
 abbrev pub NoneSaid : {X : Type 0} → (X → Type 0) → Type 0
@@ -60,9 +66,7 @@ DesignMeans top text (Err unread.NoMemory) = Unit {0}
 
 -- the texts, with this name for the top, say this design, which is ranked, and this board, and no groups
 pub record BoardSays (top : List ℕ) (texts : Texts) (p : Parts) (chip : OneChip) : Type 0 where
-  pub design : SaysDesign top (texts Design) p
-  pub ranked : IsRanked p
-  pub groups : SaysNoGroups (texts Groups)
+  pub first : DesignSays top texts p
   pub board : SaysBoard (texts Board) chip
 
 -- the texts say these results
@@ -93,7 +97,24 @@ pub record StandForOne (top : List ℕ) (texts : Texts) (c : Case) : Type 0 wher
   pub stand : StandFor top texts c
   pub one : (other : Case) → StandFor top texts other → other ≡ c
 
--- a text is of the form that is read so far; that of the cells is not read, and a map is that of a netlist
+-- the texts stand for a design and a recording of it
+pub record StandForRun (top : List ℕ) (texts : Texts) (p : Parts) (r : Recording) : Type 0 where
+  pub first : DesignSays top texts p
+  pub recorded : RecordingSays texts p r
+
+-- the texts stand for this design and this recording alone
+pub record StandForOneRun (top : List ℕ) (texts : Texts) (p : Parts) (r : Recording) : Type 0 where
+  pub stand : StandForRun top texts p r
+  pub one : (q : Parts) (other : Recording) → StandForRun top texts q other → (q ≡ p) × (other ≡ r)
+
+-- the texts stand for this case, and for this recording of its design, alone
+pub record StandForOneReplay (top : List ℕ) (texts : Texts) (c : Case) (r : Recording) : Type 0 where
+  pub stand : StandForOne top texts c
+  pub recorded : RecordingSays texts c.design r
+  pub one : (other : Recording) → RecordingSays texts c.design other → other ≡ r
+
+-- A text is of the form that is read so far. That of the cells is not read, a map is that of a netlist, and an
+-- opening and events are those of a design.
 abbrev pub IsRead : List ℕ → Texts → What → Type 0
 IsRead top texts Design = (p : Parts) × SaysDesign top (texts Design) p × IsRanked p
 IsRead top texts Cells = Unit {0}
@@ -102,8 +123,8 @@ IsRead top texts Board = (chip : OneChip) × SaysBoard (texts Board) chip
 IsRead top texts Netlist = (chip : Chip) × SaysNetlist (texts Netlist) chip
 IsRead top texts ScheduleText = (schedule : Schedule) × SaysSchedule (texts ScheduleText) schedule
 IsRead top texts Map = (chip : Chip) × (map : StateMap) × SaysNetlist (texts Netlist) chip × SaysMap (texts Map) chip map
-IsRead top texts Opening = Unit {0}
-IsRead top texts Events = Unit {0}
+IsRead top texts Opening = (p : Parts) × (values : List PortBit) × SaysDesign top (texts Design) p × SaysOpening p.inputs (texts Opening) values
+IsRead top texts Events = (p : Parts) × (events : List Event) × SaysDesign top (texts Design) p × SaysEvents p.inputs (texts Events) events
 
 -- the texts before one, of those that the command reads, are of their forms
 abbrev pub EarlierAreRead : Command → List ℕ → Texts → What → Type 0
@@ -114,8 +135,9 @@ pub record HasNoDesign (top text : List ℕ) : Type 0 where
   pub parsed : HasTree text
   pub none : NoneSaid (SaysDesign top text)
 
--- this text, after the design, is the first that is not of its form
+-- this text, after the design, is the first of those that the command reads that is not of its form
 pub record FirstUnread (command : Command) (top : List ℕ) (texts : Texts) (what : What) : Type 0 where
+  pub reads : Reads command what
   pub later : order Design < order what
   pub here : IsRead top texts what → ⊥
   pub earlier : EarlierAreRead command top texts what
@@ -144,12 +166,29 @@ AllMean command top texts Says (Ok x) = Says x
 AllMean command top texts Says (Err (unread.Refused why)) = Refuses command top texts why
 AllMean command top texts Says (Err unread.NoMemory) = Unit {0}
 
+-- texts stand for one recording of a design at most
+abbrev pub TextsTellRecordingsApart : Type 0
+TextsTellRecordingsApart =
+    (texts : Texts) (p : Parts) (r other : Recording) → RecordingSays texts p r → RecordingSays texts p other → other ≡ r
+
+-- texts stand for one design and one recording at most
+abbrev pub TextsTellRunsApart : Type 0
+TextsTellRunsApart =
+    (top : List ℕ) (texts : Texts) (p q : Parts) (r other : Recording)
+    → StandForRun top texts p r → StandForRun top texts q other → (q ≡ p) × (other ≡ r)
+
 -- texts stand for one case at most
 abbrev pub TextsTellCasesApart : Type 0
 TextsTellCasesApart =
     (top : List ℕ) (texts : Texts) (c d : Case) → StandFor top texts c → StandFor top texts d → d ≡ c
 
--- texts that are refused stand for no case
+-- what texts that the command reads without a fault stand for: a case, a design with a recording, or both
+abbrev pub AreRead : Command → List ℕ → Texts → Type 0
+AreRead Check top texts = (c : Case) × StandFor top texts c
+AreRead Settle top texts = (p : Parts) × (r : Recording) × StandForRun top texts p r
+AreRead Replay top texts = (c : Case) × (r : Recording) × StandFor top texts c × RecordingSays texts c.design r
+
+-- texts that a command refuses stand for nothing
 abbrev pub RefusedTextsStandForNothing : Type 0
 RefusedTextsStandForNothing =
-    (top : List ℕ) (texts : Texts) (why : Refusal) (c : Case) → Refuses Check top texts why → StandFor top texts c → ⊥
+    (command : Command) (top : List ℕ) (texts : Texts) (why : Refusal) → Refuses command top texts why → AreRead command top texts → ⊥

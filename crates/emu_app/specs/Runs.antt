@@ -1,0 +1,62 @@
+-- What `settle` and `replay` run, and the traces that come of it.
+-- The rules are told in docs/FORMATS.md, "Commands" and "Traces", and docs/RULES.md, "History" and "Loaded".
+use Rattle.std.specs.Prelude.{◌≡◌, ◌≤◌, ℕ, Bool, List, [], ◌∷◌, drop}
+use Rattle.design_core.specs.declared.node.NodeId.{NodeId}
+use Rattle.design_core.specs.declared.parts.Parts.{Parts}
+use Rattle.design_core.specs.declared.values.PortBit.{PortBit}
+use Rattle.design_core.specs.Dependency.{IsRanked}
+use Rattle.design_core.specs.Event.{IsHistory, HasOneHistory}
+use Rattle.design_core.specs.Settled as settled
+use Rattle.design_core.specs.Valuation.{Valuation}
+use Rattle.domain_groups.specs.NoGroups.{SaysNoGroups}
+use Rattle.settled_model.specs.Opening.{stands_for}
+use Rattle.emu_machine.specs.Acceptance.{Case, Rule, Influences, Holds, IsAccepted, rule_number}
+use Rattle.emu_machine.specs.Headline.{event_values}
+use Rattle.emu_machine.specs.Mapped.{IsLoaded}
+use Rattle.emu_machine.specs.State.{State, run_of}
+use Rattle.cycle_sim.specs.Loading.{FreeAreZero}
+use Rattle.event_replay.specs.Events.{SaysEvents}
+use Rattle.event_replay.specs.Openings.{SaysOpening}
+use Rattle.event_replay.specs.Runs.{settled_trace, machine_trace}
+use Rattle.emu_app.specs.declared.recording.Recording.{Recording}
+use Rattle.emu_app.specs.declared.what.What.TheVariants.{Design, Groups, Opening, Events}
+use Rattle.emu_app.specs.Fetching.{Texts}
+use Rattle.emu_app.specs.Forms.{SaysDesign}
+
+-- the texts say this design, which is ranked, and no groups
+pub record DesignSays (top : List ℕ) (texts : Texts) (p : Parts) : Type 0 where
+  pub design : SaysDesign top (texts Design) p
+  pub ranked : IsRanked p
+  pub groups : SaysNoGroups (texts Groups)
+
+-- the texts say this opening and these events of a design
+pub record RecordingSays (texts : Texts) (p : Parts) (r : Recording) : Type 0 where
+  pub opening : SaysOpening p.inputs (texts Opening) r.inputs
+  pub events : SaysEvents p.inputs (texts Events) r.events
+
+-- what an opening gives that names inputs alone: each flip-flop, latch and word is 0
+abbrev pub opening_of : Recording → settled.Opening
+opening_of r = stands_for (record { inputs = r.inputs; ones = []; words = [] })
+
+-- the trace of the one history of an opening and events
+pub record IsHistoryTrace (p : Parts) (r : Recording) (trace : List ℕ) : Type 0 where
+  pub one : HasOneHistory p (opening_of r) (event_values r.events)
+  pub shown : trace ≡ settled_trace p (drop 1 one.history)
+
+-- The trace of the machine that is loaded from the first valuation of the history, with 0 in all that is
+-- free. Where the twelve rules hold, it is the trace of the history too.
+pub record IsMachineTrace (c : Case) (r : Recording) (trace : List ℕ) : Type 0 where
+  pub first : Valuation
+  pub rest : List Valuation
+  pub is_history : IsHistory c.design (opening_of r) (event_values r.events) (first ∷ rest)
+  pub loaded : State
+  pub is_loaded : IsLoaded c.design c.results first loaded
+  pub free : FreeAreZero c.results loaded
+  pub shown : trace ≡ machine_trace c.design c.results (run_of c.results c.board.wires loaded r.events)
+  pub agrees : IsAccepted c → trace ≡ settled_trace c.design rest
+
+-- the rules A1 to A9 hold, so that a machine can run the results
+pub record CanReplay (c : Case) : Type 0 where
+  pub inside : ℕ → NodeId → Bool
+  pub influences : Influences c inside
+  pub rules : (rule : Rule) → rule_number rule ≤ 9 → Holds c inside rule
