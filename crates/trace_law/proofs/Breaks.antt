@@ -23,6 +23,7 @@ module _ (outputs : List Port) where
       ap (λ bytes. trace_line_of n outputs b ++ bytes) (parted (n + 1) k bs last rest later)
       ∙ sym (append_assoc (trace_line_of n outputs b) (lines_from (n + 1) bs) (trace_line_of k outputs last ++ lines_from (k + 1) rest))
 
+-- first bytes that reach into the second of two texts
 take_into : (xs ys : List ℕ) (n : ℕ) → take (length xs + n) (xs ++ ys) ≡ xs ++ take n ys
 take_into [] ys n = let none : 0 + n ≡ n = omega arith in ap (λ k. take k ys) none
 take_into (x ∷ xs) ys n =
