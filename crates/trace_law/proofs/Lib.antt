@@ -1,0 +1,3 @@
+pub mod Spots
+pub mod Histories
+pub mod Breaks
