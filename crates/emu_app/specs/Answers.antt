@@ -129,11 +129,15 @@ abbrev pub CommandMeans : Option Held → ℕ → ℕ → Option (List ℕ) → 
 CommandMeans told before now blamed words answer.Usage = IsNoCommand words
 CommandMeans told before now blamed words found = IsFound told before now blamed words found
 
+-- where the files tell what they hold, this is the trace of the command
+abbrev pub TraceOf : Option Held → CommandWords → List ℕ → Type 0
+TraceOf told n trace = IfSome told (λ held. HeldTrace held n trace)
+
 -- the words are those of a command, and this is its trace
 pub record IsTraced (told : Option Held) (words : List (List ℕ)) (trace : List ℕ) : Type 0 where
   pub names : CommandWords
   pub shape : IsCommand words names
-  pub means : IfSome told (λ held. HeldTrace held names trace)
+  pub means : TraceOf told names trace
 
 -- what is written of an answer's text: all of it
 pub record Prints (Means : Answer → Type 0) (old new : Option (List ℕ)) (ended : Status) : Type 0 where

@@ -7,6 +7,7 @@ pub mod Cycles
 pub mod Printing
 pub mod Reading
 pub mod Runs
+pub mod Endings
 pub mod Answers
 pub mod Cases
 pub mod Outcomes

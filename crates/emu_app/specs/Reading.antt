@@ -23,6 +23,7 @@ use Rattle.emu_app.specs.declared.what.What.TheVariants.{Design, Cells, Groups, 
 use Rattle.emu_app.specs.declared.plan_texts.OneChip.{OneChip}
 use Rattle.emu_app.specs.declared.recording.Recording.{Recording}
 use Rattle.emu_app.specs.declared.design_text.Parsed.{Parsed}
+use Rattle.emu_app.specs.declared.replay.Replayed.{Replayed}
 use Rattle.emu_app.specs.declared.refusal.Refusal.{Refusal}
 use Rattle.emu_app.specs.declared.refusal.Refusal.TheVariants as refusal
 use Rattle.emu_app.specs.declared.refusal.Unread.{Unread}
@@ -165,6 +166,12 @@ abbrev pub AllMean : {X : Type 0} → Command → List ℕ → Texts → (X → 
 AllMean command top texts Says (Ok x) = Says x
 AllMean command top texts Says (Err (unread.Refused why)) = Refuses command top texts why
 AllMean command top texts Says (Err unread.NoMemory) = Unit {0}
+
+-- the texts say this board and these results for a design, and this recording of it
+pub record ReplayedSays (top : List ℕ) (texts : Texts) (p : Parts) (r : Replayed) : Type 0 where
+  pub board : BoardSays top texts p r.chip
+  pub results : ResultsSay texts r.results
+  pub recorded : RecordingSays texts p r.recording
 
 -- texts stand for one recording of a design at most
 abbrev pub TextsTellRecordingsApart : Type 0

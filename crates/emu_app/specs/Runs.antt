@@ -1,10 +1,12 @@
 -- What `settle` and `replay` run, and the traces that come of it.
 -- The rules are told in docs/FORMATS.md, "Commands" and "Traces", and docs/RULES.md, "History" and "Loaded".
-use Rattle.std.specs.Prelude.{◌≡◌, ◌≤◌, ℕ, Bool, List, [], ◌∷◌, drop}
+use Rattle.std.specs.Prelude.{◌≡◌, ◌≤◌, ℕ, Bool, List, [], ◌∷◌, drop, Contains}
 use Rattle.design_core.specs.declared.node.NodeId.{NodeId}
 use Rattle.design_core.specs.declared.parts.Parts.{Parts}
+use Rattle.design_core.specs.declared.values.Event.{Event}
 use Rattle.design_core.specs.declared.values.PortBit.{PortBit}
 use Rattle.design_core.specs.Dependency.{IsRanked}
+use Rattle.design_core.specs.Design.{IsDesign}
 use Rattle.design_core.specs.Event.{IsHistory, HasOneHistory}
 use Rattle.design_core.specs.Settled as settled
 use Rattle.design_core.specs.Valuation.{Valuation}
@@ -18,6 +20,9 @@ use Rattle.cycle_sim.specs.Loading.{FreeAreZero}
 use Rattle.event_replay.specs.Events.{SaysEvents}
 use Rattle.event_replay.specs.Openings.{SaysOpening}
 use Rattle.event_replay.specs.Runs.{settled_trace, machine_trace}
+use Rattle.event_replay.specs.Settings.{AreInputBits}
+use Rattle.emu_app.specs.declared.answer.Answer.{Answer}
+use Rattle.emu_app.specs.declared.answer.Answer.TheVariants as answer
 use Rattle.emu_app.specs.declared.recording.Recording.{Recording}
 use Rattle.emu_app.specs.declared.what.What.TheVariants.{Design, Groups, Opening, Events}
 use Rattle.emu_app.specs.Fetching.{Texts}
@@ -35,11 +40,15 @@ pub record RecordingSays (texts : Texts) (p : Parts) (r : Recording) : Type 0 wh
   pub events : SaysEvents p.inputs (texts Events) r.events
 
 -- what an opening gives that names inputs alone: each flip-flop, latch and word is 0
+abbrev pub opened_with : List PortBit → settled.Opening
+opened_with inputs = stands_for (record { inputs = inputs; ones = []; words = [] })
+
 abbrev pub opening_of : Recording → settled.Opening
-opening_of r = stands_for (record { inputs = r.inputs; ones = []; words = [] })
+opening_of r = opened_with r.inputs
 
 -- the trace of the one history of an opening and events
 pub record IsHistoryTrace (p : Parts) (r : Recording) (trace : List ℕ) : Type 0 where
+  pub sound : IsDesign p
   pub one : HasOneHistory p (opening_of r) (event_values r.events)
   pub shown : trace ≡ settled_trace p (drop 1 one.history)
 
@@ -60,3 +69,22 @@ pub record CanReplay (c : Case) : Type 0 where
   pub inside : ℕ → NodeId → Bool
   pub influences : Influences c inside
   pub rules : (rule : Rule) → rule_number rule ≤ 9 → Holds c inside rule
+
+-- ## Inside the commands
+
+-- the opening and each event give values to input bits of the design, to each bit at most one
+pub record HasInputBits (p : Parts) (r : Recording) : Type 0 where
+  pub opening : AreInputBits p r.inputs
+  pub events : (event : Event) → Contains r.events event → AreInputBits p event.values
+
+-- a run comes to a trace and to no answer
+abbrev pub NoAnswer : Answer → Type 0
+NoAnswer found = ⊥
+
+-- results that a machine cannot run are rejected
+abbrev pub IsUnfit : Case → Answer → Type 0
+IsUnfit c found = (found ≡ answer.Rejected) × (CanReplay c → ⊥)
+
+-- results that a machine can run have its trace
+abbrev pub IsRun : Case → Recording → List ℕ → Type 0
+IsRun c r trace = CanReplay c × IsMachineTrace c r trace

@@ -1,6 +1,6 @@
 //! The command `check`: judges results.
 
-ghost use Rattle.std.specs.Prelude.{◌≡◌, IfOk, length};
+ghost use Rattle.std.specs.Prelude.{◌<◌, ◌≡◌, IfOk, length};
 ghost use Rattle.design_core.specs.Dependency.{IsRanked};
 ghost use Rattle.design_core.specs.Plain.{IsPlain};
 ghost use Rattle.emu_machine.specs.Law.{MapFits};
@@ -10,14 +10,16 @@ ghost use Rattle.emu_app.specs.Answers.{JudgeMeans};
 ghost use Rattle.emu_app.specs.Cases.{JudgesAll};
 ghost use Rattle.emu_app.specs.Command.{text_count};
 ghost use Rattle.emu_app.specs.Fetching.{AreWithin, texts_of};
-ghost use Rattle.emu_app.specs.Reading.{AllMean};
+ghost use Rattle.emu_app.specs.Forms.{SaysDesign};
+ghost use Rattle.emu_app.specs.Reading.{AllMean, BoardSays};
 
 use crate::answer::Answer;
 use crate::command::Command;
 use crate::laws::texts_tell_cases_apart;
 use crate::plan_texts::OneChip;
-use crate::reading::{read_board_texts, read_first, read_results};
+use crate::reading::{read_board_text, read_first, read_order, read_results};
 use crate::refusal::Unread;
+use crate::what::What;
 use accepted_law::acceptance::accepted_agrees;
 use design_core::Design;
 use emu_io::{List, NoMemory, Text};
@@ -47,10 +49,26 @@ fn judge_read(alloc: Global, top: &[u8], texts: &List<Text>) -> Result<Answer, U
     texts_tell_cases_apart();
     elaborator::gate_designs_are_plain();
     let design = read_first(alloc, Command::Check, top, texts)?;
-    let chip = read_board_texts(alloc, Command::Check, top, texts, &design)?;
+    let chip = read_board_texts(alloc, top, texts, &design)?;
     let results = read_results(alloc, Command::Check, top, texts, &design, chip)?;
     let found = judge_case(alloc, &design, chip, results)?;
     Ok(found)
+}
+
+/// The board, where the design has an order, which is not kept.
+fn read_board_texts(
+    alloc: Global,
+    top: &[u8],
+    texts: &List<Text>,
+    design: &Design,
+) -> Result<OneChip, Unread>
+    requires count { length texts.now ≡ text_count Command.Check }
+    requires before { SaysDesign top.now (texts_of Command.Check texts.now What.Design) design.now }
+    ensures means { AllMean Command.Check top.now (texts_of Command.Check texts.now) (BoardSays top.now (texts_of Command.Check texts.now) design.now) result }
+    ensures some { IfOk result (λ chip. 0 < chip.slots) }
+{
+    let _ranked = read_order(alloc, Command::Check, top, texts, design)?;
+    read_board_text(alloc, Command::Check, top, texts, design)
 }
 
 /// The verdict on a case.

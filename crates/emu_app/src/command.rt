@@ -19,12 +19,16 @@ pub enum Command {
 }
 
 impl Command {
-    /// The command of a word; None exactly where the word is none of a command that is built so far.
+    /// The command of a word; None exactly where the word is that of no command.
     pub fn named(word: &[u8]) -> Option<Command>
         ensures { MatchOption result ((command : Command) → IsNamed command word.now → ⊥) (λ command. IsNamed command word.now) }
     {
         if word == b"check".as_slice() {
             Some(Command::Check)
+        } else if word == b"settle".as_slice() {
+            Some(Command::Settle)
+        } else if word == b"replay".as_slice() {
+            Some(Command::Replay)
         } else {
             None
         }

@@ -1,6 +1,7 @@
 //! Laws of texts. There is nothing to run.
 
-ghost use Rattle.emu_app.specs.Reading.{RefusedTextsStandForNothing, TextsTellCasesApart};
+ghost use Rattle.emu_app.specs.Answers.{SettleAndReplayAgree};
+ghost use Rattle.emu_app.specs.Reading.{RefusedTextsStandForNothing, TextsTellCasesApart, TextsTellRecordingsApart, TextsTellRunsApart};
 
 /// Texts stand for one case at most.
 pub fn texts_tell_cases_apart()
@@ -15,7 +16,25 @@ pub fn texts_tell_cases_apart()
     result_files::plain_maps_are_told_apart();
 }
 
-/// Texts that are refused stand for no case.
+/// Texts stand for one recording of a design at most.
+pub fn texts_tell_recordings_apart()
+    ensures { TextsTellRecordingsApart }
+{
+    event_replay::openings_are_told_apart();
+    event_replay::events_are_told_apart();
+}
+
+/// Texts stand for one design and one recording of it at most.
+pub fn texts_tell_runs_apart()
+    ensures { TextsTellRunsApart }
+{
+    verilog_lex::each_text_has_one_answer();
+    verilog_tree::has_one_tree();
+    elaborator::trees_tell_designs_apart();
+    texts_tell_recordings_apart();
+}
+
+/// Texts that a command refuses stand for nothing that it reads.
 pub fn refused_texts_stand_for_nothing()
     ensures { RefusedTextsStandForNothing }
 {
@@ -23,4 +42,11 @@ pub fn refused_texts_stand_for_nothing()
     verilog_tree::has_one_tree();
     elaborator::trees_tell_designs_apart();
     clock_rank::cycles_are_unranked();
+}
+
+/// Where the twelve rules hold, `settle` and `replay` print one trace.
+pub fn settle_and_replay_agree()
+    ensures { SettleAndReplayAgree }
+{
+    trace_law::traces::settled_trace_is_one();
 }

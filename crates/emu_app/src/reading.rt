@@ -5,15 +5,18 @@ ghost use Rattle.emu_machine.specs.Plain.{IsPlainResults};
 ghost use Rattle.emu_app.specs.Command.{Reads, text_count};
 ghost use Rattle.emu_app.specs.Fetching.{AreWithin, texts_of};
 ghost use Rattle.emu_app.specs.Forms.{SaysDesign};
-ghost use Rattle.emu_app.specs.Reading.{AllMean, BoardSays, ResultsSay};
+ghost use Rattle.emu_app.specs.Reading.{AllMean, BoardSays, EarlierAreRead, ResultsSay};
+ghost use Rattle.emu_app.specs.Runs.{DesignSays, HasInputBits, RecordingSays};
 
 use crate::command::Command;
 use crate::design_text::read_design;
 use crate::plan_texts::{OneChip, read_groups, read_one_chip};
 use crate::ranking::rank_design;
+use crate::recording::{Recording, read_event_lines, read_inputs};
 use crate::refusal::Unread;
 use crate::result_texts::{read_map, read_netlist, read_schedule};
 use crate::what::What;
+use clock_rank::Ranked;
 use design_core::Design;
 use emu_io::{List, Text};
 use emu_machine::Results;
@@ -44,8 +47,26 @@ pub fn read_first(
     Ok(design)
 }
 
-/// That the design has an order and there are no groups; and the board that the texts say.
-pub fn read_board_texts(
+/// The design with its nodes in order, where the texts say no groups.
+pub fn read_order<'d>(
+    alloc: Global,
+    command: Command,
+    top: &[u8],
+    texts: &List<Text>,
+    design: &'d Design,
+) -> Result<Ranked<'d>, Unread>
+    requires count { length texts.now ≡ text_count command }
+    requires groups { Reads command What.Groups }
+    requires before { SaysDesign top.now (texts_of command texts.now What.Design) design.now }
+    ensures means { AllMean command top.now (texts_of command texts.now) (λ ranked. (ranked.design ≡ design.now) × DesignSays top.now (texts_of command texts.now) design.now) result }
+{
+    let ranked = rank_design(alloc, design)?;
+    read_groups(alloc, text_at(command, texts, What::Groups))?;
+    Ok(ranked)
+}
+
+/// The board that the texts say.
+pub fn read_board_text(
     alloc: Global,
     command: Command,
     top: &[u8],
@@ -53,14 +74,12 @@ pub fn read_board_texts(
     design: &Design,
 ) -> Result<OneChip, Unread>
     requires count { length texts.now ≡ text_count command }
-    requires groups { Reads command What.Groups }
     requires board { Reads command What.Board }
-    requires before { SaysDesign top.now (texts_of command texts.now What.Design) design.now }
+    requires before { DesignSays top.now (texts_of command texts.now) design.now }
     ensures means { AllMean command top.now (texts_of command texts.now) (BoardSays top.now (texts_of command texts.now) design.now) result }
     ensures some { IfOk result (λ chip. 0 < chip.slots) }
 {
-    let _ranked = rank_design(alloc, design)?;
-    read_groups(alloc, text_at(command, texts, What::Groups))?;
+    let _design = design;
     let chip = read_one_chip(alloc, text_at(command, texts, What::Board))?;
     Ok(chip)
 }
@@ -93,4 +112,28 @@ pub fn read_results(
     let mut net = List::new(alloc);
     net.push(netlist)?;
     Ok(Results { net, schedule, map })
+}
+
+/// The opening and the events that the texts say, where those before them are read.
+pub fn read_recording(
+    alloc: Global,
+    command: Command,
+    top: &[u8],
+    texts: &List<Text>,
+    design: &Design,
+) -> Result<Recording, Unread>
+    requires count { length texts.now ≡ text_count command }
+    requires opening { Reads command What.Opening }
+    requires events { Reads command What.Events }
+    requires design { SaysDesign top.now (texts_of command texts.now What.Design) design.now }
+    requires before { EarlierAreRead command top.now (texts_of command texts.now) What.Opening }
+    ensures means { AllMean command top.now (texts_of command texts.now) (RecordingSays (texts_of command texts.now) design.now) result }
+    ensures bits { IfOk result (HasInputBits design.now) }
+{
+    verilog_lex::each_text_has_one_answer();
+    verilog_tree::has_one_tree();
+    elaborator::trees_tell_designs_apart();
+    let inputs = read_inputs(alloc, text_at(command, texts, What::Opening), design)?;
+    let events = read_event_lines(alloc, text_at(command, texts, What::Events), design)?;
+    Ok(Recording { inputs, events })
 }

@@ -1,0 +1,104 @@
+//! The command `settle`: runs recorded events on the original.
+
+ghost use Rattle.std.specs.Prelude.{◌≡◌, ◌<◌, length};
+ghost use Rattle.emu_app.specs.Answers.{Comes, SettleMeans, TraceMeans};
+ghost use Rattle.emu_app.specs.Command.{text_count};
+ghost use Rattle.emu_app.specs.Fetching.{AreWithin, texts_of};
+ghost use Rattle.emu_app.specs.Forms.{SaysDesign};
+ghost use Rattle.emu_app.specs.Runs.{DesignSays, HasInputBits, IsHistoryTrace, NoAnswer};
+
+use crate::command::Command;
+use crate::ending::{Ending, ending_of};
+use crate::laws::texts_tell_runs_apart;
+use crate::reading::{read_first, read_order, read_recording};
+use crate::recording::{Recording, opening_with};
+use crate::what::What;
+use clock_rank::Ranked;
+use design_core::Design;
+use emu_io::{List, Sink, StoreFault, Text};
+use event_replay::settle_lines;
+use settled_model::Settled;
+use std::alloc::Global;
+
+/// Reads the texts, and prints the trace of the original that they record.
+pub fn settle_texts<O: Sink>(
+    alloc: Global,
+    top: &[u8],
+    texts: &List<Text>,
+    out: &mut O,
+) -> Result<Ending, StoreFault>
+    requires count { length texts.now ≡ text_count Command.Settle }
+    requires within { AreWithin (texts_of Command.Settle texts.now) }
+    ensures { Comes (SettleMeans top.now (texts_of Command.Settle texts.now)) (TraceMeans Command.Settle top.now (texts_of Command.Settle texts.now)) (O.written out.old) (O.written out.new) (O.faults out.old) (O.faults out.new) result }
+{
+    match read_first(alloc, Command::Settle, top, texts) {
+        Ok(design) => settle_design(alloc, top, texts, &design, out),
+        Err(why) => ending_of(why),
+    }
+}
+
+/// The same, for the design that the texts say.
+fn settle_design<O: Sink>(
+    alloc: Global,
+    top: &[u8],
+    texts: &List<Text>,
+    design: &Design,
+    out: &mut O,
+) -> Result<Ending, StoreFault>
+    requires count { length texts.now ≡ text_count Command.Settle }
+    requires says { SaysDesign top.now (texts_of Command.Settle texts.now What.Design) design.now }
+    ensures { Comes (SettleMeans top.now (texts_of Command.Settle texts.now)) (TraceMeans Command.Settle top.now (texts_of Command.Settle texts.now)) (O.written out.old) (O.written out.new) (O.faults out.old) (O.faults out.new) result }
+{
+    match read_order(alloc, Command::Settle, top, texts, design) {
+        Ok(ranked) => settle_ranked(alloc, top, texts, &ranked, out),
+        Err(why) => ending_of(why),
+    }
+}
+
+/// The same, for the design with its nodes in order.
+fn settle_ranked<O: Sink>(
+    alloc: Global,
+    top: &[u8],
+    texts: &List<Text>,
+    ranked: &Ranked<'_>,
+    out: &mut O,
+) -> Result<Ending, StoreFault>
+    requires count { length texts.now ≡ text_count Command.Settle }
+    requires says { DesignSays top.now (texts_of Command.Settle texts.now) ranked.now.design }
+    ensures { Comes (SettleMeans top.now (texts_of Command.Settle texts.now)) (TraceMeans Command.Settle top.now (texts_of Command.Settle texts.now)) (O.written out.old) (O.written out.new) (O.faults out.old) (O.faults out.new) result }
+{
+    texts_tell_runs_apart();
+    match read_recording(alloc, Command::Settle, top, texts, ranked.design()) {
+        Ok(recording) => settle_recording(alloc, ranked, recording, out),
+        Err(why) => ending_of(why),
+    }
+}
+
+/// Runs recorded events on the original, and prints its trace.
+fn settle_recording<O: Sink>(
+    alloc: Global,
+    ranked: &Ranked<'_>,
+    recording: Recording,
+    out: &mut O,
+) -> Result<Ending, StoreFault>
+    requires bits { HasInputBits ranked.now.design recording }
+    ensures { Comes NoAnswer (IsHistoryTrace ranked.now.design recording) (O.written out.old) (O.written out.new) (O.faults out.old) (O.faults out.new) result }
+{
+    one_history::histories::one_history();
+    settled_model::openings_fit();
+    history_law::drivers::input_is_input_bit();
+    trace_law::traces::settled_traces();
+    trace_law::traces::settled_trace_is_one();
+    trace_law::traces::broken_traces();
+    let design = ranked.design();
+    design.stands();
+    ranked.stands();
+    let opening = opening_with(alloc, recording.inputs);
+    let Ok(mut settled) = Settled::open(alloc, ranked, &opening) else {
+        return Err(StoreFault::NoMemory);
+    };
+    match settle_lines(alloc, &mut settled, design, &recording.events, out) {
+        Ok(()) => Ok(Ending::Traced),
+        Err(fault) => Err(fault),
+    }
+}
