@@ -5,7 +5,6 @@ use Rattle.id_arena.specs.declared.wire.Wire.{Wire}
 use Rattle.design_core.specs.declared.parts.Parts.{Parts}
 use Rattle.design_core.specs.declared.parts.Port.{Port}
 use Rattle.design_core.specs.declared.values.Event.{Event}
-use Rattle.design_core.specs.declared.values.PortBit.{PortBit}
 use Rattle.design_core.specs.Design.{port_bits}
 use Rattle.design_core.specs.Event.{Follow}
 use Rattle.design_core.specs.Valuation.{Valuation, values}
