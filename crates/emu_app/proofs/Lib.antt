@@ -7,3 +7,6 @@ mod Refusals
 pub mod FreeTests
 pub mod Completing
 pub mod Circles
+pub mod Comes
+pub mod Fitness
+pub mod Replaying

@@ -1,6 +1,6 @@
 //! The command `replay`: runs recorded events on results.
 
-ghost use Rattle.std.specs.Prelude.{◌≡◌, ◌<◌, ◌↔◌, IfOk, IsTrue, length};
+ghost use Rattle.std.specs.Prelude.{◌≡◌, ◌<◌, ◌↔◌, IfOk, IsTrue, length, nat_lt};
 ghost use Rattle.cycle_sim.specs.Loading.{CanLoad, FreeAreZero};
 ghost use Rattle.cycle_sim.specs.Tables.{HaveSizes, state_of};
 ghost use Rattle.design_core.specs.Dependency.{IsRanked};
@@ -8,11 +8,13 @@ ghost use Rattle.design_core.specs.Design.{net_count};
 ghost use Rattle.design_core.specs.Plain.{IsPlain};
 ghost use Rattle.design_core.specs.Settled.{IsOpened};
 ghost use Rattle.design_core.specs.Valuation.{Valuation};
+ghost use Rattle.emu_machine.specs.Acceptance.{rule_number};
 ghost use Rattle.emu_machine.specs.Law.{MapFits};
 ghost use Rattle.emu_machine.specs.Mapped.{IsLoaded};
 ghost use Rattle.emu_machine.specs.Netlist.{IsNetlist};
 ghost use Rattle.emu_machine.specs.Plain.{IsPlainResults};
 ghost use Rattle.event_replay.specs.Settings.{AreInputBits};
+ghost use Rattle.schedule_check.specs.Verdict.{named};
 ghost use Rattle.emu_app.specs.Answers.{Comes, ReplayMeans, TraceMeans};
 ghost use Rattle.emu_app.specs.Command.{text_count};
 ghost use Rattle.emu_app.specs.Fetching.{AreWithin, texts_of};
@@ -172,14 +174,28 @@ fn can_replay(
     requires netlist { IsNetlist results.now.net }
     ensures { IfOk result (λ fit. IsTrue fit ↔ CanReplay (case_of design.now chip results.now)) }
 {
-    let verdict = judge(alloc, design, chip.room, chip.slots, results)?;
-    Ok(matches!(
-        verdict,
-        Verdict::Accepted
-            | Verdict::Rejected {
-                rule: Rule::A10 | Rule::A11 | Rule::A12
-            }
-    ))
+    match judge(alloc, design, chip.room, chip.slots, results)? {
+        Verdict::Accepted => Ok(true),
+        Verdict::Rejected { rule } => Ok(comes_late(rule)),
+    }
+}
+
+/// Whether a rule comes after A9, so that a machine can run results of which it fails first.
+fn comes_late(rule: Rule) -> bool
+    ensures { result ≡ nat_lt 9 (rule_number (named rule)) }
+{
+    match rule {
+        Rule::A10 | Rule::A11 | Rule::A12 => true,
+        Rule::A1
+        | Rule::A2
+        | Rule::A3
+        | Rule::A4
+        | Rule::A5
+        | Rule::A6
+        | Rule::A7
+        | Rule::A8
+        | Rule::A9 => false,
+    }
 }
 
 /// Runs recorded events on results, and prints the machine's trace.
