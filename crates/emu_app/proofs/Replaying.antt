@@ -1,6 +1,5 @@
 -- What running recorded events on results comes to.
-use Rattle.std.proofs.Common.{ℕ, zero, suc, ◌≡◌, ◌<◌, ◌≤◌, ◌⊎◌, Bool, true, false, List, [], ◌∷◌, length, get_or, map, take, Option, Some, None, Result, Ok, Err, IsTrue, slice_get, Contains, codes, inl, inr, refl, sym, ◌∙◌, ap, subst, arith}
-use Rattle.std.specs.List.{AllZip}
+use Rattle.std.proofs.Common.{ℕ, zero, suc, ◌≡◌, ◌<◌, ◌≤◌, ◌⊎◌, Bool, true, false, List, [], ◌∷◌, length, get_or, map, take, Option, Some, None, Result, Ok, Err, IfOk, IsTrue, slice_get, Contains, codes, inl, inr, refl, sym, ◌∙◌, ap, subst, arith}
 use Rattle.std.proofs.lemmas.List.{take-map}
 use Rattle.std.proofs.lemmas.Map.Views.{Contains-from_any}
 use Rattle.std.proofs.lemmas.Option.{slice_get_within, get_or_from_slice_get, slice_get-get_or}
@@ -8,7 +7,6 @@ use Rattle.id_arena.specs.declared.keys.NetId.{NetId}
 use Rattle.id_arena.specs.declared.wire.Wire.{Wire}
 use Rattle.design_core.specs.declared.node.NodeId.{NodeId}
 use Rattle.design_core.specs.declared.parts.Parts.{Parts}
-use Rattle.design_core.specs.declared.parts.Port.{Port}
 use Rattle.design_core.specs.declared.values.Event.{Event}
 use Rattle.design_core.specs.declared.values.PortBit.{PortBit}
 use Rattle.design_core.specs.Dependency.{IsRanked}
@@ -17,6 +15,7 @@ use Rattle.design_core.specs.Event.{IsHistory, HasOneHistory}
 use Rattle.design_core.specs.Influence.{Group, all_groups}
 use Rattle.design_core.specs.Settled.{IsOpened, OpeningFits}
 use Rattle.design_core.specs.Valuation.{Valuation}
+use Rattle.one_history.specs.Histories.{OneHistory}
 use Rattle.history_law.specs.Drivers.{InputIsInputBit}
 use Rattle.history_law.proofs.Naming.{number_same}
 use Rattle.emu_io.specs.declared.files.StoreFault.{StoreFault}
@@ -39,8 +38,6 @@ use Rattle.schedule_check.specs.Verdict.{all_inputs}
 use Rattle.settled_model.specs.Held.{Held, valuation}
 use Rattle.settled_model.specs.Opening.{AreInputs, Opens}
 use Rattle.settled_model.specs.Runs.{OpeningsFit}
-use Rattle.event_replay.specs.Events.{SaysEvents, TellsEvent}
-use Rattle.event_replay.specs.Lines.{event_lines}
 use Rattle.event_replay.specs.Runs.{machine_trace, spots_of, BreaksOff, HasRun, ReplayMeans as RunMeans}
 use Rattle.event_replay.specs.Settings.{AreInputBits}
 use Rattle.trace_law.specs.Traces.{BrokenTraces, OpenedAreSame, TracesAgree}
@@ -72,21 +69,12 @@ placed xs x h = slice_get-get_or xs h.0 x h.1 ∙ ap Some h.2
 none_in : {X : Type 0} (x : X) → Contains [] x → ⊥
 none_in x h = let low : h.0 < 0 = h.1 in omega (arith, low)
 
--- what each partner gives holds of each element that has one
-partners_give : {X Y : Type 0} (R : X → Y → Type 0) (P : Y → Type 0) → ((x : X) (y : Y) → R x y → P y)
-    → (xs : List X) (ys : List Y) → AllZip R xs ys → (k : ℕ) (y : Y) → slice_get ys k ≡ Some y → P y
-partners_give R P gives [] [] zip k y at = absurd cc
-partners_give R P gives [] (z ∷ zs) zip k y at = absurd zip
-partners_give R P gives (x ∷ xs) [] zip k y at = absurd zip
-partners_give R P gives (x ∷ xs) (z ∷ zs) zip zero y at = let same : z ≡ y = cc in subst P same (gives x z zip.0)
-partners_give R P gives (x ∷ xs) (z ∷ zs) zip (suc k) y at = partners_give R P gives xs zs zip.1 k y at
+-- what holds of a value gives what else holds of it
+pub if_ok : {X E : Type 0} (P Q : X → Type 0) (result : Result X E) → ((x : X) → P x → Q x) → IfOk result P → IfOk result Q
+if_ok P Q (Ok x) gives holds = gives x holds
+if_ok P Q (Err e) gives holds = tt
 
 -- ## What a recording gives
-
--- each event that a text tells names the group of all inputs
-pub told_groups : (ports : List Port) (text : List ℕ) (events : List Event) → SaysEvents ports text events → (event : Event) → Contains events event → event.group.place ≡ 0
-told_groups ports text events says event has =
-    partners_give (TellsEvent ports) (λ (e : Event). e.group.place ≡ 0) (λ line e tells. tells.group) (event_lines text) events says has.0 event (placed events event has)
 
 same_net : (a b : NetId) → is_net a.place b ≡ true → a ≡ b
 same_net a b same = let places : b.place ≡ a.place = number_same b.place a.place same in ap (λ (k : ℕ). record { place = k }) (sym places)
@@ -180,6 +168,18 @@ module _ (p : Parts) (chip : OneChip) (results : Results) (r : Recording) (x : S
             agrees = λ accepted. agree (case_of p chip results) (opening_of r) r.events v vs x case accepted opening events is (loaded v is.0);
           }
 
+-- the trace of a machine that is loaded from the values of the settled valuation
+pub loaded_trace : TracesAgree → OneHistory → OpeningsFit → InputIsInputBit → (p : Parts) (chip : OneChip) (results : Results) (r : Recording) (x y : State)
+    → IsDesign p → IsRanked p → MapFits results → IsNetlist results.net → HasInputBits p r → x ≡ y
+    → ((v : Valuation) → IsOpened p (opening_of r) v → IsLoaded p results v y) → FreeAreZero results y
+    → IsMachineTrace (case_of p chip results) r (machine_trace p results (run_of results [] x r.events))
+loaded_trace agree one opens law p chip results r x y design ranked mapped netlist bits same loaded free =
+    let fits : OpeningFits p (opening_of r) = opens p _ (opens_inputs law p r.inputs bits.opening) in
+    run_trace p chip results r x agree (is_case p chip results design ranked mapped netlist) fits (events_fit law p chip results r bits)
+    (one p (opening_of r) (event_values r.events) design ranked fits)
+    (subst (λ (z : State). (v : Valuation) → IsOpened p (opening_of r) v → IsLoaded p results v z) (sym same) loaded)
+    (subst (λ (z : State). FreeAreZero results z) (sym same) free)
+
 -- the states after the first events are the first states
 first_run : (results : Results) (wires : List Wire) (x : State) (events : List Event) (count : ℕ) → run_of results wires x (take count events) ≡ take count (run_of results wires x events)
 first_run results wires x events zero = refl
@@ -188,8 +188,8 @@ first_run results wires x (e ∷ es) (suc count) = ap (λ xs. after_frame result
 
 module _ (R : List ℕ → Type 0) (p : Parts) (results : Results) (events : List Event) (x y : State) (old new : Option (List ℕ)) (before after : ℕ) (is : R (machine_trace p results (run_of results [] x events))) where
   -- all events are done, and the trace is written
-  pub run_written : {X : Type 0} (done : X) → ((wires : List Wire) → RunMeans p results wires events x y old new before after (Ok done)) → WritesTrace R old new
-  run_written done means = record { trace = machine_trace p results (run_of results [] x events); means = is; text = (means []).1 }
+  pub run_written : (X : Type 0) (done : X) → ((wires : List Wire) → RunMeans p results wires events x y old new before after (Ok done)) → WritesTrace R old new
+  run_written X done means = record { trace = machine_trace p results (run_of results [] x events); means = is; text = (means []).1 }
 
   stops : BrokenTraces → (count : ℕ) → BreaksOff p.outputs (map (spots_of results) (run_of results [] x (take count events))) old new → TraceStops R old new
   stops law count breaks =
@@ -201,12 +201,12 @@ module _ (R : List ℕ → Type 0) (p : Parts) (results : Results) (events : Lis
       record { trace = machine_trace p results (run_of results [] x events); means = is; count = cut.0; some = cut.1; text = cut.2 }
 
   -- a fault in the line of an event breaks the trace off
-  pub run_stopped : {X : Type 0} (M : Answer → Type 0) (fault : StoreFault) → BrokenTraces
+  pub run_stopped : (X : Type 0) (M : Answer → Type 0) (fault : StoreFault) → BrokenTraces
       → ((wires : List Wire) → RunMeans {X = X} p results wires events x y old new before after (Err fault)) → Comes M R old new before after (Err fault)
-  run_stopped {X} M store.Failed law means =
+  run_stopped X M store.Failed law means =
       let here : RunMeans {X = X} p results [] events x y old new before after (Err store.Failed) = means [] in
       (here.0, stops law here.1.0 here.1.2)
-  run_stopped {X} M store.NoMemory law means =
+  run_stopped X M store.NoMemory law means =
       let here : RunMeans {X = X} p results [] events x y old new before after (Err store.NoMemory) = means [] in
       inr (stops law here.1.0 here.1.2)
 

@@ -215,6 +215,7 @@ fn replay_recording<O: Sink>(
     ensures { Comes NoAnswer (IsMachineTrace (case_of ranked.now.design chip results.now) recording) (O.written out.old) (O.written out.new) (O.faults out.old) (O.faults out.new) result }
 {
     one_history::histories::one_history();
+    settled_model::openings_fit();
     cycle_sim::judged_can_run();
     cycle_sim::judged_can_load();
     trace_law::traces::traces_agree();
