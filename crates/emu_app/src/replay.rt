@@ -145,16 +145,14 @@ fn replay_case<O: Sink>(
     requires bits { HasInputBits ranked.now.design replayed.recording }
     ensures { Comes (IsUnfit (case_of ranked.now.design replayed.chip replayed.results)) (IsRun (case_of ranked.now.design replayed.chip replayed.results) replayed.recording) (O.written out.old) (O.written out.new) (O.faults out.old) (O.faults out.new) result }
 {
+    let Replayed {
+        chip,
+        results,
+        recording,
+    } = replayed;
     ranked.stands();
-    match can_replay(alloc, ranked.design(), replayed.chip, &replayed.results) {
-        Ok(true) => replay_recording(
-            alloc,
-            ranked,
-            replayed.chip,
-            &replayed.results,
-            replayed.recording,
-            out,
-        ),
+    match can_replay(alloc, ranked.design(), chip, &results) {
+        Ok(true) => replay_recording(alloc, ranked, chip, &results, recording, out),
         Ok(false) => Ok(Ending::Answered(Answer::Rejected)),
         Err(NoMemory) => Err(StoreFault::NoMemory),
     }
