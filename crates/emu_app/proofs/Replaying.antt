@@ -212,23 +212,6 @@ module _ (R : List ℕ → Type 0) (p : Parts) (results : Results) (events : Lis
 
 -- ## The texts
 
--- the texts before the opening are read
-pub before_opening_replay : (top : List ℕ) (texts : Texts) (p : Parts) (chip : OneChip) (results : Results) → BoardSays top texts p chip → ResultsSay texts results → EarlierAreRead Replay top texts Opening
-before_opening_replay top texts p chip results board say Design reads early = (p, board.first.design, board.first.ranked)
-before_opening_replay top texts p chip results board say Cells reads early = tt
-before_opening_replay top texts p chip results board say Groups reads early = board.first.groups
-before_opening_replay top texts p chip results board say Board reads early = (chip, board.board)
-before_opening_replay top texts p chip results board say Netlist reads early = (say.chip, say.says_netlist)
-before_opening_replay top texts p chip results board say ScheduleText reads early = (say.schedule, say.says_schedule)
-before_opening_replay top texts p chip results board say Map reads early = (say.chip, say.map, say.says_netlist, say.says_map)
-before_opening_replay top texts p chip results board say Opening reads early = absurd (omega (arith, early))
-before_opening_replay top texts p chip results board say Events reads early = absurd (omega (arith, early))
-
--- why texts are refused does not hang on what they would say
-pub refused_too : {X Y : Type 0} (S : X → Type 0) (T : Y → Type 0) (command : Command) (top : List ℕ) (texts : Texts) (why : Unread) → AllMean command top texts S (Err why) → AllMean command top texts T (Err why)
-refused_too S T command top texts (unread.Refused why) means = means
-refused_too S T command top texts unread.NoMemory means = tt
-
 -- what the texts say is one case and one recording
 pub one_replay : TextsTellCasesApart → TextsTellRecordingsApart → (top : List ℕ) (texts : Texts) (p : Parts) (r : Replayed) → ReplayedSays top texts p r
     → StandForOneReplay top texts (case_of p r.chip r.results) r.recording

@@ -1,0 +1,41 @@
+use Rattle.std.proofs.Common.{subst}
+use Rattle.design_core.specs.declared.parts.Parts.{Parts}
+use Rattle.emu_machine.specs.Acceptance.{Case}
+use Rattle.emu_app.specs.declared.command.Command.TheVariants.{Replay}
+use Rattle.emu_app.specs.declared.what.What.TheVariants.{Design}
+use Rattle.emu_app.specs.Answers.{ReplayMeans, TraceMeans}
+use Rattle.emu_app.specs.Fetching.{Texts, texts_of}
+use Rattle.emu_app.specs.Forms.{SaysDesign}
+use Rattle.emu_app.specs.Reading.{ReplayedSays, StandForOneReplay, case_of}
+use Rattle.emu_app.specs.Runs.{IsRun, IsUnfit}
+use Rattle.emu_app.proofs.Comes.{comes_as}
+use Rattle.emu_app.proofs.OneCases.{results_stand}
+use Rattle.emu_app.proofs.Replaying.{one_replay, run_means, unfit_means}
+use Rattle.emu_app.proofs.replay.replay_ranked.Goals as goal
+
+pub replay_case-requires-clause-plain : goal.replay_case-requires-clause-plain
+replay_case-requires-clause-plain g c =
+    let says : SaysDesign c.args.top.now (texts_of Replay c.args.texts.now Design) c.args.ranked.now.design = c.requires.says.design in
+    c.gate_designs_are_plain.ensures (texts_of Replay c.args.texts.now Design) says.tokens says.tree c.args.top.now c.args.ranked.now.design says.describes
+
+pub replay_case-requires-clause-mapped : goal.replay_case-requires-clause-mapped
+replay_case-requires-clause-mapped g c = (results_stand (texts_of Replay c.args.texts.now) c.in-Ok.replayed.results c.in-Ok.ensures.means.results).0
+
+pub replay_case-requires-clause-netlist : goal.replay_case-requires-clause-netlist
+replay_case-requires-clause-netlist g c = (results_stand (texts_of Replay c.args.texts.now) c.in-Ok.replayed.results c.in-Ok.ensures.means.results).1
+
+pub returns-in-Ok : goal.returns-in-Ok
+returns-in-Ok g c =
+    let texts : Texts = texts_of Replay c.args.texts.now in
+    let p : Parts = c.args.ranked.now.design in
+    let judged : Case = case_of p c.in-Ok.replayed.chip c.in-Ok.replayed.results in
+    let says : ReplayedSays c.args.top.now texts p c.in-Ok.replayed =
+    subst (λ (q : Parts). ReplayedSays c.args.top.now texts q c.in-Ok.replayed) c.design.ensures c.in-Ok.ensures.means in
+    let stand : StandForOneReplay c.args.top.now texts judged c.in-Ok.replayed.recording =
+    one_replay c.texts_tell_cases_apart.ensures c.texts_tell_recordings_apart.ensures c.args.top.now texts p c.in-Ok.replayed says in
+    comes_as (IsUnfit judged) (ReplayMeans c.args.top.now texts) (IsRun judged c.in-Ok.replayed.recording) (TraceMeans Replay c.args.top.now texts)
+    (g.O.Sink.written c.args.out.now) (g.O.Sink.written c.replay_case.new.out) (g.O.Sink.faults c.args.out.now) (g.O.Sink.faults c.replay_case.new.out)
+    c.replay_case.result
+    (unfit_means c.args.top.now texts p c.in-Ok.replayed stand)
+    (run_means c.args.top.now texts p c.in-Ok.replayed stand)
+    c.replay_case.ensures
