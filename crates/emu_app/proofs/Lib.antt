@@ -4,6 +4,7 @@ pub mod OneCases
 pub mod FirstUnread
 pub mod Recordings
 mod Agreeing
+pub mod Comes
 pub mod Endings
 mod Refusals
 pub mod FreeTests
