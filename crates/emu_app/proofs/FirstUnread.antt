@@ -2,7 +2,9 @@
 use Rattle.std.proofs.Common.{ℕ, ◌≡◌, ◌<◌, ◌≤◌, ◌^◌, List, length, Result, Ok, Err, refl, sym, subst, arith, lit<}
 use Rattle.design_core.specs.declared.parts.Parts.{Parts}
 use Rattle.design_core.specs.Dependency.{IsRanked}
+use Rattle.design_core.specs.declared.values.PortBit.{PortBit}
 use Rattle.domain_groups.specs.NoGroups.{SaysNoGroups}
+use Rattle.event_replay.specs.Openings.{SaysOpening}
 use Rattle.emu_machine.specs.declared.netlist.Chip.{Chip}
 use Rattle.emu_machine.specs.declared.schedule.Schedule.{Schedule}
 use Rattle.result_files.specs.PlainSchedule.{SaysSchedule}
@@ -53,12 +55,12 @@ first_unread command top texts Opening first = first
 first_unread command top texts Events first = first
 
 pub refused_as : {X Y : Type 0} (S : X → Type 0) (T : Y → Type 0) (command : Command) (top : List ℕ) (texts : Texts) (what : What) (why : Unread)
-    → Means what S (Err why) → order Design < order what → (NoneSaid S → IsRead top texts what → ⊥) → EarlierAreRead command top texts what → AllMean command top texts T (Err why)
-refused_as S T command top texts what (unread.Refused (refusal.NotYet other)) means later none earlier =
-    subst (NotYetMeans command top texts) (sym means.0) (first_unread command top texts what (record { later = later; here = none means.1; earlier = earlier }))
-refused_as S T command top texts what (unread.Refused (refusal.Faulty fault)) means later none earlier = absurd means
-refused_as S T command top texts what (unread.Refused (refusal.Cycle names)) means later none earlier = absurd means
-refused_as S T command top texts what unread.NoMemory means later none earlier = tt
+    → Means what S (Err why) → Reads command what → order Design < order what → (NoneSaid S → IsRead top texts what → ⊥) → EarlierAreRead command top texts what → AllMean command top texts T (Err why)
+refused_as S T command top texts what (unread.Refused (refusal.NotYet other)) means reads later none earlier =
+    subst (NotYetMeans command top texts) (sym means.0) (first_unread command top texts what (record { reads = reads; later = later; here = none means.1; earlier = earlier }))
+refused_as S T command top texts what (unread.Refused (refusal.Faulty fault)) means reads later none earlier = absurd means
+refused_as S T command top texts what (unread.Refused (refusal.Cycle names)) means reads later none earlier = absurd means
+refused_as S T command top texts what unread.NoMemory means reads later none earlier = tt
 
 -- the design is the first text, and has faults of its own
 pub refused_design : {Y : Type 0} (T : Y → Type 0) (command : Command) (top : List ℕ) (texts : Texts) (why : Unread) → DesignMeans top (texts Design) (Err why) → AllMean command top texts T (Err why)
@@ -99,9 +101,9 @@ module _ (command : Command) (top : List ℕ) (texts : Texts) (p : Parts) (desig
 
 module _ (command : Command) (top : List ℕ) (texts : Texts) (p : Parts) (one : OneChip) (board : BoardSays top texts p one) where
   pub before_netlist : EarlierAreRead command top texts Netlist
-  before_netlist Design reads early = (p, board.design, board.ranked)
+  before_netlist Design reads early = (p, board.first.design, board.first.ranked)
   before_netlist Cells reads early = tt
-  before_netlist Groups reads early = board.groups
+  before_netlist Groups reads early = board.first.groups
   before_netlist Board reads early = (one, board.board)
   before_netlist Netlist reads early = absurd (omega (arith, early))
   before_netlist ScheduleText reads early = absurd (omega (arith, early))
@@ -110,9 +112,9 @@ module _ (command : Command) (top : List ℕ) (texts : Texts) (p : Parts) (one :
   before_netlist Events reads early = absurd (omega (arith, early))
 
   pub before_schedule : (chip : Chip) → SaysNetlist (texts Netlist) chip → EarlierAreRead command top texts ScheduleText
-  before_schedule chip netlist Design reads early = (p, board.design, board.ranked)
+  before_schedule chip netlist Design reads early = (p, board.first.design, board.first.ranked)
   before_schedule chip netlist Cells reads early = tt
-  before_schedule chip netlist Groups reads early = board.groups
+  before_schedule chip netlist Groups reads early = board.first.groups
   before_schedule chip netlist Board reads early = (one, board.board)
   before_schedule chip netlist Netlist reads early = (chip, netlist)
   before_schedule chip netlist ScheduleText reads early = absurd (omega (arith, early))
@@ -121,12 +123,24 @@ module _ (command : Command) (top : List ℕ) (texts : Texts) (p : Parts) (one :
   before_schedule chip netlist Events reads early = absurd (omega (arith, early))
 
   pub before_map : (chip : Chip) (schedule : Schedule) → SaysNetlist (texts Netlist) chip → SaysSchedule (texts ScheduleText) schedule → EarlierAreRead command top texts Map
-  before_map chip schedule netlist says Design reads early = (p, board.design, board.ranked)
+  before_map chip schedule netlist says Design reads early = (p, board.first.design, board.first.ranked)
   before_map chip schedule netlist says Cells reads early = tt
-  before_map chip schedule netlist says Groups reads early = board.groups
+  before_map chip schedule netlist says Groups reads early = board.first.groups
   before_map chip schedule netlist says Board reads early = (one, board.board)
   before_map chip schedule netlist says Netlist reads early = (chip, netlist)
   before_map chip schedule netlist says ScheduleText reads early = (schedule, says)
   before_map chip schedule netlist says Map reads early = absurd (omega (arith, early))
   before_map chip schedule netlist says Opening reads early = absurd (omega (arith, early))
   before_map chip schedule netlist says Events reads early = absurd (omega (arith, early))
+
+-- an event text is refused as the first where all before it are read, the opening with them
+pub before_events : (command : Command) (top : List ℕ) (texts : Texts) (p : Parts) (values : List PortBit) → SaysDesign top (texts Design) p → SaysOpening p.inputs (texts Opening) values → EarlierAreRead command top texts Opening → EarlierAreRead command top texts Events
+before_events command top texts p values design opening before Design reads early = before Design reads (omega arith)
+before_events command top texts p values design opening before Cells reads early = before Cells reads (omega arith)
+before_events command top texts p values design opening before Groups reads early = before Groups reads (omega arith)
+before_events command top texts p values design opening before Board reads early = before Board reads (omega arith)
+before_events command top texts p values design opening before Netlist reads early = before Netlist reads (omega arith)
+before_events command top texts p values design opening before ScheduleText reads early = before ScheduleText reads (omega arith)
+before_events command top texts p values design opening before Map reads early = before Map reads (omega arith)
+before_events command top texts p values design opening before Opening reads early = (p, values, design, opening)
+before_events command top texts p values design opening before Events reads early = absurd (omega (arith, early))

@@ -2,6 +2,8 @@ pub mod Fetches
 pub mod Readings
 pub mod OneCases
 pub mod FirstUnread
+pub mod Recordings
+mod Agreeing
 pub mod Endings
 mod Refusals
 pub mod FreeTests

@@ -72,7 +72,7 @@ same_results tokens netlists-apart schedules-apart maps-apart texts a b say-a sa
 pub one_case : reading.EachTextHasOneAnswer → HasOneTree → designs.TreesTellDesignsApart → boards.EachTextHasOneAnswer → netlists.TextsTellChipsApart → schedules.TextsTellSchedulesApart → maps.TextsTellMapsApart
     → (top : List ℕ) (texts : Texts) (c d : Case) → StandFor top texts c → StandFor top texts d → d ≡ c
 one_case tokens trees designs-apart boards-law netlists-apart schedules-apart maps-apart top texts c d sc sd =
-    let design : sd.design ≡ sc.design = one_design tokens trees designs-apart top (texts Design) sd.design sc.design sd.board_says.design sc.board_says.design in
+    let design : sd.design ≡ sc.design = one_design tokens trees designs-apart top (texts Design) sd.design sc.design sd.board_says.first.design sc.board_says.first.design in
     let room : sd.chip.room ≡ sc.chip.room = same_room boards-law (texts Board) sd.chip sc.chip sd.board_says.board sc.board_says.board in
     let slots : sd.chip.slots ≡ sc.chip.slots = same_slots boards-law (texts Board) sd.chip sc.chip sd.board_says.board sc.board_says.board in
     let results : sd.results ≡ sc.results = same_results tokens netlists-apart schedules-apart maps-apart texts sd.results sc.results sd.results_say sc.results_say in
@@ -82,6 +82,10 @@ one_case tokens trees designs-apart boards-law netlists-apart schedules-apart ma
     ∙ ap (λ n. plain_case sc.design sc.chip.room n sd.results) slots
     ∙ ap (λ r. plain_case sc.design sc.chip.room sc.chip.slots r) results
     ∙ sym sc.is
+
+-- the design of a case is the one that the texts say
+pub case_design : (top : List ℕ) (texts : Texts) (c : Case) → StandFor top texts c → SaysDesign top (texts Design) c.design
+case_design top texts c s = subst (λ (x : Case). SaysDesign top (texts Design) x.design) (sym s.is) s.board_says.first.design
 
 -- what the texts say makes a case, and no other
 pub reads_case : (top : List ℕ) (texts : Texts) (p : Parts) (chip : OneChip) (results : Results) → BoardSays top texts p chip → ResultsSay texts results → TextsTellCasesApart → StandForOne top texts (case_of p chip results)

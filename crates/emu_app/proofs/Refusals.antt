@@ -21,7 +21,12 @@ use Rattle.design_core.specs.Dependency.{IsRanked}
 use Rattle.emu_app.specs.declared.refusal.TextFault.{TextFault}
 use Rattle.emu_app.specs.declared.refusal.TextFault.TheVariants.{BadByte, OpenComment, OpenAttribute, BadNumber, UnknownDigit, Directive, Expected, Unsupported, TooDeep}
 use Rattle.emu_machine.specs.Acceptance.{Case}
-use Rattle.emu_app.specs.declared.command.Command.TheVariants.{Check}
+use Rattle.emu_app.specs.declared.command.Command.{Command}
+use Rattle.emu_app.specs.declared.command.Command.TheVariants.{Check, Settle, Replay}
+use Rattle.emu_app.specs.declared.recording.Recording.{Recording}
+use Rattle.emu_app.specs.declared.refusal.Refusal.{Refusal}
+use Rattle.emu_app.specs.Command.{Reads, settle_place}
+use Rattle.emu_app.specs.Runs.{RecordingSays}
 use Rattle.emu_app.specs.declared.refusal.Refusal.TheVariants as refusal
 use Rattle.emu_app.specs.declared.what.What.{What}
 use Rattle.emu_app.specs.declared.what.What.TheVariants.{Design, Cells, Groups, Board, Netlist, Schedule as ScheduleText, Map, Opening, Events}
@@ -29,8 +34,8 @@ use Rattle.emu_app.specs.What.{order}
 use Rattle.emu_app.specs.Fetching.{Texts}
 use Rattle.emu_app.specs.Faults.{HasFault, HasNoTree}
 use Rattle.emu_app.specs.Forms.{AreTokens, IsTreeOf, SaysDesign}
-use Rattle.emu_app.specs.Reading.{FirstUnread, IsRead, NotYetMeans, RefusedTextsStandForNothing, StandFor}
-use Rattle.emu_app.proofs.OneCases.{one_design}
+use Rattle.emu_app.specs.Reading.{AreRead, FirstUnread, IsRead, NotYetMeans, Refuses, RefusedTextsStandForNothing, StandFor, StandForRun}
+use Rattle.emu_app.proofs.OneCases.{case_design, one_design}
 use Rattle.emu_app.proofs.Readings.{one_answer, tokens_once}
 
 -- tokens with a first fault have no tree
@@ -78,38 +83,81 @@ no_tree_with_fault law text Expected at tokens tree has is = no_tree_where law t
 no_tree_with_fault law text Unsupported at tokens tree has is = no_tree_where law text parse.Unsupported at tokens tree (λ p e. cc) has is
 no_tree_with_fault law text TooDeep at tokens tree has is = no_tree_where law text parse.TooDeep at tokens tree (λ p e. cc) has is
 
--- a text that is not of its form, and one that is
-read_text : (top : List ℕ) (texts : Texts) (what : What) (c : Case) → order Design < order what → StandFor top texts c → IsRead top texts what
-read_text top texts Design c later s = absurd (omega (arith, later))
-read_text top texts Cells c later s = tt
-read_text top texts Groups c later s = s.board_says.groups
-read_text top texts Board c later s = (s.chip, s.board_says.board)
-read_text top texts Netlist c later s = (s.results_say.chip, s.results_say.says_netlist)
-read_text top texts ScheduleText c later s = (s.results_say.schedule, s.results_say.says_schedule)
-read_text top texts Map c later s = (s.results_say.chip, s.results_say.map, s.results_say.says_netlist, s.results_say.says_map)
-read_text top texts Opening c later s = tt
-read_text top texts Events c later s = tt
+-- what texts say that a command reads whole: a design in any case, and each text after it
+record SaysFirst (command : Command) (top : List ℕ) (texts : Texts) : Type 0 where
+  design : Parts
+  says : SaysDesign top (texts Design) design
+  ranked : IsRanked design
+  all : (what : What) → Reads command what → order Design < order what → IsRead top texts what
 
-not_first : (top : List ℕ) (texts : Texts) (what : What) (c : Case) → FirstUnread Check top texts what → StandFor top texts c → ⊥
-not_first top texts what c first s = first.here (read_text top texts what c first.later s)
+-- what a case gives
+read_case : (top : List ℕ) (texts : Texts) (c : Case) → StandFor top texts c → (what : What) → order what < 7 → order Design < order what → IsRead top texts what
+read_case top texts c s Design early later = absurd (omega (arith, later))
+read_case top texts c s Cells early later = tt
+read_case top texts c s Groups early later = s.board_says.first.groups
+read_case top texts c s Board early later = (s.chip, s.board_says.board)
+read_case top texts c s Netlist early later = (s.results_say.chip, s.results_say.says_netlist)
+read_case top texts c s ScheduleText early later = (s.results_say.schedule, s.results_say.says_schedule)
+read_case top texts c s Map early later = (s.results_say.chip, s.results_say.map, s.results_say.says_netlist, s.results_say.says_map)
+read_case top texts c s Opening early later = absurd (omega (arith, early))
+read_case top texts c s Events early later = absurd (omega (arith, early))
 
-not_yet : (top : List ℕ) (texts : Texts) (what : What) (c : Case) → NotYetMeans Check top texts what → StandFor top texts c → ⊥
-not_yet top texts Design c means s = means.none s.design s.board_says.design
-not_yet top texts Cells c means s = not_first top texts Cells c means s
-not_yet top texts Groups c means s = not_first top texts Groups c means s
-not_yet top texts Board c means s = not_first top texts Board c means s
-not_yet top texts Netlist c means s = not_first top texts Netlist c means s
-not_yet top texts ScheduleText c means s = not_first top texts ScheduleText c means s
-not_yet top texts Map c means s = not_first top texts Map c means s
-not_yet top texts Opening c means s = not_first top texts Opening c means s
-not_yet top texts Events c means s = not_first top texts Events c means s
+-- what a design with a recording gives
+read_run : (top : List ℕ) (texts : Texts) (p : Parts) (r : Recording) → StandForRun top texts p r → (what : What) → settle_place what < 5 → order Design < order what → IsRead top texts what
+read_run top texts p r s Design reads later = absurd (omega (arith, later))
+read_run top texts p r s Cells reads later = tt
+read_run top texts p r s Groups reads later = s.first.groups
+read_run top texts p r s Board reads later = absurd (omega (arith, reads))
+read_run top texts p r s Netlist reads later = absurd (omega (arith, reads))
+read_run top texts p r s ScheduleText reads later = absurd (omega (arith, reads))
+read_run top texts p r s Map reads later = absurd (omega (arith, reads))
+read_run top texts p r s Opening reads later = (p, r.inputs, s.first.design, s.recorded.opening)
+read_run top texts p r s Events reads later = (p, r.events, s.first.design, s.recorded.events)
 
--- texts that are refused stand for no case
+-- what a case with a recording of its design gives
+read_replay : (top : List ℕ) (texts : Texts) (c : Case) (r : Recording) → StandFor top texts c → RecordingSays texts c.design r → (what : What) → order Design < order what → IsRead top texts what
+read_replay top texts c r s recorded Design later = absurd (omega (arith, later))
+read_replay top texts c r s recorded Cells later = tt
+read_replay top texts c r s recorded Groups later = s.board_says.first.groups
+read_replay top texts c r s recorded Board later = (s.chip, s.board_says.board)
+read_replay top texts c r s recorded Netlist later = (s.results_say.chip, s.results_say.says_netlist)
+read_replay top texts c r s recorded ScheduleText later = (s.results_say.schedule, s.results_say.says_schedule)
+read_replay top texts c r s recorded Map later = (s.results_say.chip, s.results_say.map, s.results_say.says_netlist, s.results_say.says_map)
+read_replay top texts c r s recorded Opening later = (c.design, r.inputs, case_design top texts c s, recorded.opening)
+read_replay top texts c r s recorded Events later = (c.design, r.events, case_design top texts c s, recorded.events)
+
+says_first : (command : Command) (top : List ℕ) (texts : Texts) → AreRead command top texts → SaysFirst command top texts
+says_first Check top texts (c, s) =
+    record { design = s.design; says = s.board_says.first.design; ranked = s.board_says.first.ranked; all = λ what reads later. read_case top texts c s what reads later }
+says_first Settle top texts (p, r, s) =
+    record { design = p; says = s.first.design; ranked = s.first.ranked; all = λ what reads later. read_run top texts p r s what reads later }
+says_first Replay top texts (c, r, s, recorded) =
+    record { design = s.design; says = s.board_says.first.design; ranked = s.board_says.first.ranked; all = λ what reads later. read_replay top texts c r s recorded what later }
+
+not_first : (command : Command) (top : List ℕ) (texts : Texts) (what : What) → FirstUnread command top texts what → SaysFirst command top texts → ⊥
+not_first command top texts what first s = first.here (s.all what first.reads first.later)
+
+not_yet : (command : Command) (top : List ℕ) (texts : Texts) (what : What) → NotYetMeans command top texts what → SaysFirst command top texts → ⊥
+not_yet command top texts Design means s = means.none s.design s.says
+not_yet command top texts Cells means s = not_first command top texts Cells means s
+not_yet command top texts Groups means s = not_first command top texts Groups means s
+not_yet command top texts Board means s = not_first command top texts Board means s
+not_yet command top texts Netlist means s = not_first command top texts Netlist means s
+not_yet command top texts ScheduleText means s = not_first command top texts ScheduleText means s
+not_yet command top texts Map means s = not_first command top texts Map means s
+not_yet command top texts Opening means s = not_first command top texts Opening means s
+not_yet command top texts Events means s = not_first command top texts Events means s
+
+not_refused : reading.EachTextHasOneAnswer → HasOneTree → designs.TreesTellDesignsApart → CyclesAreUnranked
+    → (command : Command) (top : List ℕ) (texts : Texts) (why : Refusal) → Refuses command top texts why → SaysFirst command top texts → ⊥
+not_refused law trees apart cycles command top texts (refusal.Faulty fault) means s =
+    no_tree_with_fault law (texts Design) fault.kind fault.at s.says.tokens s.says.tree means s.says.is_tree
+not_refused law trees apart cycles command top texts (refusal.Cycle names) means s =
+    let same : s.design ≡ means.design = one_design law trees apart top (texts Design) s.design means.design s.says means.says in
+    cycles means.design means.cycle.nodes means.cycle.is_cycle (subst IsRanked same s.ranked)
+not_refused law trees apart cycles command top texts (refusal.NotYet what) means s = not_yet command top texts what means s
+
+-- texts that a command refuses stand for nothing
 pub refused_stand_for_nothing : reading.EachTextHasOneAnswer → HasOneTree → designs.TreesTellDesignsApart → CyclesAreUnranked → RefusedTextsStandForNothing
-refused_stand_for_nothing law trees apart cycles top texts (refusal.Faulty fault) c means s =
-    let says : SaysDesign top (texts Design) s.design = s.board_says.design in
-    no_tree_with_fault law (texts Design) fault.kind fault.at says.tokens says.tree means says.is_tree
-refused_stand_for_nothing law trees apart cycles top texts (refusal.Cycle names) c means s =
-    let same : s.design ≡ means.design = one_design law trees apart top (texts Design) s.design means.design s.board_says.design means.says in
-    cycles means.design means.cycle.nodes means.cycle.is_cycle (subst IsRanked same s.board_says.ranked)
-refused_stand_for_nothing law trees apart cycles top texts (refusal.NotYet what) c means s = not_yet top texts what c means s
+refused_stand_for_nothing law trees apart cycles command top texts why means are =
+    not_refused law trees apart cycles command top texts why means (says_first command top texts are)

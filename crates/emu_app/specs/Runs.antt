@@ -72,10 +72,12 @@ pub record CanReplay (c : Case) : Type 0 where
 
 -- ## Inside the commands
 
--- the opening and each event give values to input bits of the design, to each bit at most one
+-- the opening and each event give values to input bits of the design, to each bit at most one, and each
+-- event names the group of all inputs, whose number is 0
 pub record HasInputBits (p : Parts) (r : Recording) : Type 0 where
   pub opening : AreInputBits p r.inputs
   pub events : (event : Event) → Contains r.events event → AreInputBits p event.values
+  pub groups : (event : Event) → Contains r.events event → event.group.place ≡ 0
 
 -- a run comes to a trace and to no answer
 abbrev pub NoAnswer : Answer → Type 0
