@@ -10,3 +10,5 @@ mod Refusals
 pub mod FreeTests
 pub mod Completing
 pub mod Circles
+pub mod Comes
+pub mod Settling
