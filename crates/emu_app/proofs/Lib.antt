@@ -10,5 +10,4 @@ mod Refusals
 pub mod FreeTests
 pub mod Completing
 pub mod Circles
-pub mod Comes
 pub mod Settling
