@@ -11,3 +11,4 @@ pub mod FreeTests
 pub mod Completing
 pub mod Circles
 pub mod Settling
+mod Working

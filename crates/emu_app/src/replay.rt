@@ -1,6 +1,6 @@
 //! The command `replay`: runs recorded events on results.
 
-ghost use Rattle.std.specs.Prelude.{◌≡◌, ◌<◌, ◌↔◌, IfOk, IsTrue, length};
+ghost use Rattle.std.specs.Prelude.{◌≡◌, ◌<◌, ◌↔◌, IfOk, IsTrue, length, nat_lt};
 ghost use Rattle.cycle_sim.specs.Loading.{CanLoad, FreeAreZero};
 ghost use Rattle.cycle_sim.specs.Tables.{HaveSizes, state_of};
 ghost use Rattle.design_core.specs.Dependency.{IsRanked};
@@ -8,11 +8,13 @@ ghost use Rattle.design_core.specs.Design.{net_count};
 ghost use Rattle.design_core.specs.Plain.{IsPlain};
 ghost use Rattle.design_core.specs.Settled.{IsOpened};
 ghost use Rattle.design_core.specs.Valuation.{Valuation};
+ghost use Rattle.emu_machine.specs.Acceptance.{rule_number};
 ghost use Rattle.emu_machine.specs.Law.{MapFits};
 ghost use Rattle.emu_machine.specs.Mapped.{IsLoaded};
 ghost use Rattle.emu_machine.specs.Netlist.{IsNetlist};
 ghost use Rattle.emu_machine.specs.Plain.{IsPlainResults};
 ghost use Rattle.event_replay.specs.Settings.{AreInputBits};
+ghost use Rattle.schedule_check.specs.Verdict.{named};
 ghost use Rattle.emu_app.specs.Answers.{Comes, ReplayMeans, TraceMeans};
 ghost use Rattle.emu_app.specs.Command.{text_count};
 ghost use Rattle.emu_app.specs.Fetching.{AreWithin, texts_of};
@@ -143,16 +145,14 @@ fn replay_case<O: Sink>(
     requires bits { HasInputBits ranked.now.design replayed.recording }
     ensures { Comes (IsUnfit (case_of ranked.now.design replayed.chip replayed.results)) (IsRun (case_of ranked.now.design replayed.chip replayed.results) replayed.recording) (O.written out.old) (O.written out.new) (O.faults out.old) (O.faults out.new) result }
 {
+    let Replayed {
+        chip,
+        results,
+        recording,
+    } = replayed;
     ranked.stands();
-    match can_replay(alloc, ranked.design(), replayed.chip, &replayed.results) {
-        Ok(true) => replay_recording(
-            alloc,
-            ranked,
-            replayed.chip,
-            &replayed.results,
-            replayed.recording,
-            out,
-        ),
+    match can_replay(alloc, ranked.design(), chip, &results) {
+        Ok(true) => replay_recording(alloc, ranked, chip, &results, recording, out),
         Ok(false) => Ok(Ending::Answered(Answer::Rejected)),
         Err(NoMemory) => Err(StoreFault::NoMemory),
     }
@@ -172,14 +172,28 @@ fn can_replay(
     requires netlist { IsNetlist results.now.net }
     ensures { IfOk result (λ fit. IsTrue fit ↔ CanReplay (case_of design.now chip results.now)) }
 {
-    let verdict = judge(alloc, design, chip.room, chip.slots, results)?;
-    Ok(matches!(
-        verdict,
-        Verdict::Accepted
-            | Verdict::Rejected {
-                rule: Rule::A10 | Rule::A11 | Rule::A12
-            }
-    ))
+    match judge(alloc, design, chip.room, chip.slots, results)? {
+        Verdict::Accepted => Ok(true),
+        Verdict::Rejected { rule } => Ok(comes_late(rule)),
+    }
+}
+
+/// Whether a rule comes after A9, so that a machine can run results of which it fails first.
+fn comes_late(rule: Rule) -> bool
+    ensures { result ≡ nat_lt 9 (rule_number (named rule)) }
+{
+    match rule {
+        Rule::A10 | Rule::A11 | Rule::A12 => true,
+        Rule::A1
+        | Rule::A2
+        | Rule::A3
+        | Rule::A4
+        | Rule::A5
+        | Rule::A6
+        | Rule::A7
+        | Rule::A8
+        | Rule::A9 => false,
+    }
 }
 
 /// Runs recorded events on results, and prints the machine's trace.
@@ -199,6 +213,7 @@ fn replay_recording<O: Sink>(
     ensures { Comes NoAnswer (IsMachineTrace (case_of ranked.now.design chip results.now) recording) (O.written out.old) (O.written out.new) (O.faults out.old) (O.faults out.new) result }
 {
     one_history::histories::one_history();
+    settled_model::openings_fit();
     cycle_sim::judged_can_run();
     cycle_sim::judged_can_load();
     trace_law::traces::traces_agree();
