@@ -12,3 +12,5 @@ pub mod Completing
 pub mod Circles
 pub mod Settling
 mod Working
+pub mod Fitness
+pub mod Replaying

@@ -1,0 +1,252 @@
+-- What running recorded events on results comes to.
+use Rattle.std.proofs.Common.{ℕ, zero, suc, ◌≡◌, ◌<◌, ◌≤◌, ◌⊎◌, Bool, true, false, List, [], ◌∷◌, length, get_or, map, take, Option, Some, None, Result, Ok, Err, IfOk, IsTrue, slice_get, Contains, codes, inl, inr, refl, sym, ◌∙◌, ap, subst, arith}
+use Rattle.std.proofs.lemmas.List.{take-map}
+use Rattle.std.proofs.lemmas.Map.Views.{Contains-from_any}
+use Rattle.std.proofs.lemmas.Option.{slice_get_within, get_or_from_slice_get, slice_get-get_or}
+use Rattle.id_arena.specs.declared.keys.NetId.{NetId}
+use Rattle.id_arena.specs.declared.wire.Wire.{Wire}
+use Rattle.design_core.specs.declared.node.NodeId.{NodeId}
+use Rattle.design_core.specs.declared.parts.Parts.{Parts}
+use Rattle.design_core.specs.declared.values.Event.{Event}
+use Rattle.design_core.specs.declared.values.PortBit.{PortBit}
+use Rattle.design_core.specs.Dependency.{IsRanked}
+use Rattle.design_core.specs.Design.{IsDesign, is_net, net_count, port_bits}
+use Rattle.design_core.specs.Event.{IsHistory, HasOneHistory}
+use Rattle.design_core.specs.Influence.{Group, all_groups}
+use Rattle.design_core.specs.Settled.{IsOpened, OpeningFits}
+use Rattle.design_core.specs.Valuation.{Valuation}
+use Rattle.one_history.specs.Histories.{OneHistory}
+use Rattle.history_law.specs.Drivers.{InputIsInputBit}
+use Rattle.history_law.proofs.Naming.{number_same}
+use Rattle.emu_io.specs.declared.files.StoreFault.{StoreFault}
+use Rattle.emu_io.specs.declared.files.StoreFault.TheVariants as store
+use Rattle.emu_io.specs.Sink.{AppendsWhereTold}
+use Rattle.emu_machine.specs.declared.results.Results.{Results}
+use Rattle.emu_machine.specs.declared.schedule.Frame.{Frame}
+use Rattle.emu_machine.specs.declared.place.Place.TheVariants as place
+use Rattle.emu_machine.specs.declared.map.Spot.{Spot}
+use Rattle.emu_machine.specs.Acceptance.{A2, A4, A5, A7, A9, Holds, frame_differs}
+use Rattle.emu_machine.specs.Headline.{EventsFit, event_values}
+use Rattle.emu_machine.specs.Law.{IsCase, MapFits}
+use Rattle.emu_machine.specs.Mapped.{IsLoaded}
+use Rattle.emu_machine.specs.Netlist.{IsNetlist, chip_at}
+use Rattle.emu_machine.specs.Plain.{IsPlainResults}
+use Rattle.emu_machine.specs.State.{State, after_frame, run_of}
+use Rattle.cycle_sim.specs.Judged.{IsJudged}
+use Rattle.cycle_sim.specs.Loading.{FreeAreZero, HasValues}
+use Rattle.schedule_check.specs.Verdict.{all_inputs}
+use Rattle.settled_model.specs.Held.{Held, valuation}
+use Rattle.settled_model.specs.Opening.{AreInputs, Opens}
+use Rattle.settled_model.specs.Runs.{OpeningsFit}
+use Rattle.event_replay.specs.Runs.{machine_trace, spots_of, BreaksOff, HasRun, ReplayMeans as RunMeans}
+use Rattle.event_replay.specs.Settings.{AreInputBits}
+use Rattle.trace_law.specs.Traces.{BrokenTraces, OpenedAreSame, TracesAgree}
+use Rattle.emu_app.specs.declared.answer.Answer.{Answer}
+use Rattle.emu_app.specs.declared.answer.Answer.TheVariants as answer
+use Rattle.emu_app.specs.declared.plan_texts.OneChip.{OneChip}
+use Rattle.emu_app.specs.declared.recording.Recording.{Recording}
+use Rattle.emu_app.specs.declared.refusal.Unread.{Unread}
+use Rattle.emu_app.specs.declared.refusal.Unread.TheVariants as unread
+use Rattle.emu_app.specs.declared.replay.Replayed.{Replayed}
+use Rattle.emu_app.specs.declared.command.Command.{Command}
+use Rattle.emu_app.specs.declared.command.Command.TheVariants.{Replay}
+use Rattle.emu_app.specs.declared.what.What.TheVariants.{Design, Cells, Groups, Board, Netlist, Schedule as ScheduleText, Map, Opening, Events}
+use Rattle.emu_app.specs.Answers.{Comes, RejectsReplay, ReplayMeans, Replays, TraceStops, WritesTrace}
+use Rattle.emu_app.specs.Fetching.{Texts}
+use Rattle.emu_app.specs.Reading.{AllMean, BoardSays, EarlierAreRead, ReplayedSays, ResultsSay, StandForOneReplay, TextsTellCasesApart, TextsTellRecordingsApart, case_of}
+use Rattle.emu_app.specs.Runs.{CanReplay, HasInputBits, IsMachineTrace, IsRun, IsUnfit, opened_with, opening_of}
+use Rattle.emu_app.proofs.OneCases.{is_case, reads_case}
+
+-- ## Lists
+
+-- what stands at a place is contained, and what is contained stands at a place
+contained : {X : Type 0} (xs : List X) (k : ℕ) (x : X) → slice_get xs k ≡ Some x → Contains xs x
+contained xs k x at = (k, slice_get_within xs k x at, get_or_from_slice_get xs k x x at)
+
+placed : {X : Type 0} (xs : List X) (x : X) (h : Contains xs x) → slice_get xs h.0 ≡ Some x
+placed xs x h = slice_get-get_or xs h.0 x h.1 ∙ ap Some h.2
+
+none_in : {X : Type 0} (x : X) → Contains [] x → ⊥
+none_in x h = let low : h.0 < 0 = h.1 in omega (arith, low)
+
+-- what holds of a value gives what else holds of it
+pub if_ok : {X E : Type 0} (P Q : X → Type 0) (result : Result X E) → ((x : X) → P x → Q x) → IfOk result P → IfOk result Q
+if_ok P Q (Ok x) gives holds = gives x holds
+if_ok P Q (Err e) gives holds = tt
+
+-- ## What a recording gives
+
+same_net : (a b : NetId) → is_net a.place b ≡ true → a ≡ b
+same_net a b same = let places : b.place ≡ a.place = number_same b.place a.place same in ap (λ (k : ℕ). record { place = k }) (sym places)
+
+-- input bits are bits of input ports
+pub bits_of_inputs : InputIsInputBit → (p : Parts) (values : List PortBit) → AreInputBits p values → AreInputs p values
+bits_of_inputs law p values bits b here =
+    Contains-from_any {eq = λ a. is_net a.place} same_net b.net (port_bits p.inputs) (law p b.net.place (bits.inputs b here))
+
+-- an opening that names inputs alone is one of the design
+pub opens_inputs : InputIsInputBit → (p : Parts) (inputs : List PortBit) → AreInputBits p inputs → Opens p (record { inputs = inputs; ones = []; words = [] })
+opens_inputs law p inputs bits =
+    record { inputs = bits_of_inputs law p inputs bits; ones = λ id has. absurd (none_in id has); words = λ w has. absurd (none_in w has) }
+
+-- the events fit a case without groups
+pub events_fit : InputIsInputBit → (p : Parts) (chip : OneChip) (results : Results) (r : Recording) → HasInputBits p r → EventsFit (case_of p chip results) r.events
+events_fit law p chip results r bits k event at =
+    let here : Contains r.events event = contained r.events k event at in
+    record {
+      group = all_inputs p;
+      named = ap (slice_get (all_groups p [])) (bits.groups event here);
+      inputs = bits_of_inputs law p event.values (bits.events event here);
+    }
+
+-- ## What the rules give
+
+-- the group of all inputs has a frame
+first_frame : (p : Parts) (chip : OneChip) (results : Results) (inside : ℕ → NodeId → Bool) → Holds (case_of p chip results) inside A4 → 0 < length results.schedule.frames
+first_frame p chip results inside holds = go results.schedule.frames (holds (place.Frame 0))
+  where
+    go : (frames : List Frame) → (IsTrue (frame_differs (case_of p chip results) (slice_get frames 0) (Some (all_inputs p))) → ⊥) → 0 < length frames
+    go [] never = absurd (never refl)
+    go (f ∷ fs) never = omega arith
+
+pub frame_there : (p : Parts) (chip : OneChip) (results : Results) (r : Recording) → CanReplay (case_of p chip results) → HasInputBits p r
+    → (event : Event) → Contains r.events event → event.group.place < length results.schedule.frames
+frame_there p chip results r fit bits event has =
+    let first : 0 < length results.schedule.frames = first_frame p chip results fit.inside (fit.rules A4 (omega arith)) in
+    let zeroth : event.group.place ≡ 0 = bits.groups event has in
+    omega (arith, first, zeroth)
+
+pub is_judged : (p : Parts) (chip : OneChip) (results : Results) → CanReplay (case_of p chip results) → IsDesign p → IsNetlist results.net → MapFits results → IsPlainResults results → IsJudged (case_of p chip results)
+is_judged p chip results fit design netlist mapped plain =
+    record {
+      inside = fit.inside;
+      design = design;
+      groups = λ k g here. absurd (none k g here);
+      netlist = netlist;
+      mapped = mapped;
+      plain = plain;
+      no_cycle = fit.rules A2 (omega arith);
+      actions = fit.rules A5 (omega arith);
+      fitting = fit.rules A7 (omega arith);
+    }
+  where
+    none : (k : ℕ) (g : Group) → slice_get [] k ≡ Some g → ⊥
+    none k g here = cc
+
+-- the map's outputs are nets that are there
+pub spots_there : (results : Results) → MapFits results → (spot : Spot) → Contains results.map.outputs spot → spot.net.place < (chip_at results.net spot.chip.place).nets
+spots_there results mapped spot has = mapped.outputs has.0 spot (placed results.map.outputs spot has)
+
+-- ## Loading
+
+-- the values of the settled valuation are those of each opened one
+pub opened_values : OpenedAreSame → (p : Parts) (inputs : List PortBit) (settled : Held) (values : List Bool) → IsDesign p → IsRanked p → OpeningFits p (opened_with inputs)
+    → values ≡ settled.nets → IsOpened p (opened_with inputs) (valuation settled) → (v : Valuation) → IsOpened p (opened_with inputs) v → HasValues p values v
+opened_values law p inputs settled values design ranked fits same opened v is n low =
+    (law p (opened_with inputs) v (valuation settled) design ranked fits is opened).nets n low ∙ ap (λ nets. get_or nets n false) (sym same)
+
+-- ## The trace of the machine
+
+module _ (p : Parts) (chip : OneChip) (results : Results) (r : Recording) (x : State) where
+  -- the trace of a machine that is loaded from the opened valuation
+  pub run_trace : TracesAgree → IsCase (case_of p chip results) → OpeningFits p (opening_of r) → EventsFit (case_of p chip results) r.events → HasOneHistory p (opening_of r) (event_values r.events)
+      → ((v : Valuation) → IsOpened p (opening_of r) v → IsLoaded p results v x) → FreeAreZero results x
+      → IsMachineTrace (case_of p chip results) r (machine_trace p results (run_of results [] x r.events))
+  run_trace agree case opening events h loaded free = go h.history h.is_one
+    where
+      go : (history : List Valuation) → IsHistory p (opening_of r) (event_values r.events) history → IsMachineTrace (case_of p chip results) r (machine_trace p results (run_of results [] x r.events))
+      go [] is = absurd is
+      go (v ∷ vs) is =
+          record {
+            first = v;
+            rest = vs;
+            is_history = is;
+            loaded = x;
+            is_loaded = loaded v is.0;
+            free = free;
+            shown = refl;
+            agrees = λ accepted. agree (case_of p chip results) (opening_of r) r.events v vs x case accepted opening events is (loaded v is.0);
+          }
+
+-- the trace of a machine that is loaded from the values of the settled valuation
+pub loaded_trace : TracesAgree → OneHistory → OpeningsFit → InputIsInputBit → (p : Parts) (chip : OneChip) (results : Results) (r : Recording) (x y : State)
+    → IsDesign p → IsRanked p → MapFits results → IsNetlist results.net → HasInputBits p r → x ≡ y
+    → ((v : Valuation) → IsOpened p (opening_of r) v → IsLoaded p results v y) → FreeAreZero results y
+    → IsMachineTrace (case_of p chip results) r (machine_trace p results (run_of results [] x r.events))
+loaded_trace agree one opens law p chip results r x y design ranked mapped netlist bits same loaded free =
+    let fits : OpeningFits p (opening_of r) = opens p _ (opens_inputs law p r.inputs bits.opening) in
+    run_trace p chip results r x agree (is_case p chip results design ranked mapped netlist) fits (events_fit law p chip results r bits)
+    (one p (opening_of r) (event_values r.events) design ranked fits)
+    (subst (λ (z : State). (v : Valuation) → IsOpened p (opening_of r) v → IsLoaded p results v z) (sym same) loaded)
+    (subst (λ (z : State). FreeAreZero results z) (sym same) free)
+
+-- the states after the first events are the first states
+first_run : (results : Results) (wires : List Wire) (x : State) (events : List Event) (count : ℕ) → run_of results wires x (take count events) ≡ take count (run_of results wires x events)
+first_run results wires x events zero = refl
+first_run results wires x [] (suc count) = refl
+first_run results wires x (e ∷ es) (suc count) = ap (λ xs. after_frame results wires e x ∷ xs) (first_run results wires (after_frame results wires e x) es count)
+
+module _ (R : List ℕ → Type 0) (p : Parts) (results : Results) (events : List Event) (x y : State) (old new : Option (List ℕ)) (before after : ℕ) (is : R (machine_trace p results (run_of results [] x events))) where
+  -- all events are done, and the trace is written
+  pub run_written : (X : Type 0) (done : X) → ((wires : List Wire) → RunMeans p results wires events x y old new before after (Ok done)) → WritesTrace R old new
+  run_written X done means = record { trace = machine_trace p results (run_of results [] x events); means = is; text = (means []).1 }
+
+  stops : BrokenTraces → (count : ℕ) → BreaksOff p.outputs (map (spots_of results) (run_of results [] x (take count events))) old new → TraceStops R old new
+  stops law count breaks =
+      let shown : List (List Bool) = map (spots_of results) (run_of results [] x events) in
+      let first : map (spots_of results) (run_of results [] x (take count events)) ≡ take count shown =
+      ap (map (spots_of results)) (first_run results [] x events count) ∙ sym (take-map (spots_of results) count (run_of results [] x events)) in
+      let cut : (bytes : ℕ) × (bytes ≤ length (machine_trace p results (run_of results [] x events))) × AppendsWhereTold old (take bytes (machine_trace p results (run_of results [] x events))) new =
+      law p.outputs shown count old new (subst (λ lines. BreaksOff p.outputs lines old new) first breaks) in
+      record { trace = machine_trace p results (run_of results [] x events); means = is; count = cut.0; some = cut.1; text = cut.2 }
+
+  -- a fault in the line of an event breaks the trace off
+  pub run_stopped : (X : Type 0) (M : Answer → Type 0) (fault : StoreFault) → BrokenTraces
+      → ((wires : List Wire) → RunMeans {X = X} p results wires events x y old new before after (Err fault)) → Comes M R old new before after (Err fault)
+  run_stopped X M store.Failed law means =
+      let here : RunMeans {X = X} p results [] events x y old new before after (Err store.Failed) = means [] in
+      (here.0, stops law here.1.0 here.1.2)
+  run_stopped X M store.NoMemory law means =
+      let here : RunMeans {X = X} p results [] events x y old new before after (Err store.NoMemory) = means [] in
+      inr (stops law here.1.0 here.1.2)
+
+-- ## The texts
+
+-- the texts before the opening are read
+pub before_opening_replay : (top : List ℕ) (texts : Texts) (p : Parts) (chip : OneChip) (results : Results) → BoardSays top texts p chip → ResultsSay texts results → EarlierAreRead Replay top texts Opening
+before_opening_replay top texts p chip results board say Design reads early = (p, board.first.design, board.first.ranked)
+before_opening_replay top texts p chip results board say Cells reads early = tt
+before_opening_replay top texts p chip results board say Groups reads early = board.first.groups
+before_opening_replay top texts p chip results board say Board reads early = (chip, board.board)
+before_opening_replay top texts p chip results board say Netlist reads early = (say.chip, say.says_netlist)
+before_opening_replay top texts p chip results board say ScheduleText reads early = (say.schedule, say.says_schedule)
+before_opening_replay top texts p chip results board say Map reads early = (say.chip, say.map, say.says_netlist, say.says_map)
+before_opening_replay top texts p chip results board say Opening reads early = absurd (omega (arith, early))
+before_opening_replay top texts p chip results board say Events reads early = absurd (omega (arith, early))
+
+-- why texts are refused does not hang on what they would say
+pub refused_too : {X Y : Type 0} (S : X → Type 0) (T : Y → Type 0) (command : Command) (top : List ℕ) (texts : Texts) (why : Unread) → AllMean command top texts S (Err why) → AllMean command top texts T (Err why)
+refused_too S T command top texts (unread.Refused why) means = means
+refused_too S T command top texts unread.NoMemory means = tt
+
+-- what the texts say is one case and one recording
+pub one_replay : TextsTellCasesApart → TextsTellRecordingsApart → (top : List ℕ) (texts : Texts) (p : Parts) (r : Replayed) → ReplayedSays top texts p r
+    → StandForOneReplay top texts (case_of p r.chip r.results) r.recording
+one_replay cases recordings top texts p r says =
+    record {
+      stand = reads_case top texts p r.chip r.results says.board says.results cases;
+      recorded = says.recorded;
+      one = λ other also. recordings texts p r.recording other says.recorded also;
+    }
+
+-- the answer and the trace of a case and a recording are those of the texts that stand for them
+pub unfit_means : (top : List ℕ) (texts : Texts) (p : Parts) (r : Replayed) → StandForOneReplay top texts (case_of p r.chip r.results) r.recording
+    → (found : Answer) → IsUnfit (case_of p r.chip r.results) found → ReplayMeans top texts found
+unfit_means top texts p r stand found unfit =
+    let rejects : RejectsReplay top texts = record { judged = case_of p r.chip r.results; recording = r.recording; stand = stand; rejected = unfit.1 } in
+    subst (ReplayMeans top texts) (sym unfit.0) rejects
+
+pub run_means : (top : List ℕ) (texts : Texts) (p : Parts) (r : Replayed) → StandForOneReplay top texts (case_of p r.chip r.results) r.recording
+    → (trace : List ℕ) → IsRun (case_of p r.chip r.results) r.recording trace → Replays top texts trace
+run_means top texts p r stand trace run =
+    record { judged = case_of p r.chip r.results; recording = r.recording; stand = stand; fit = run.0; is = run.1 }

@@ -1,0 +1,36 @@
+use Rattle.std.proofs.Common.{◌≡◌, IfOk, sym, subst}
+use Rattle.design_core.specs.declared.parts.Parts.{Parts}
+use Rattle.design_core.specs.Design.{IsDesign}
+use Rattle.design_core.specs.Settled.{IsOpened, OpeningFits}
+use Rattle.design_core.specs.Valuation.{Valuation}
+use Rattle.emu_machine.specs.Mapped.{IsLoaded}
+use Rattle.cycle_sim.specs.Loading.{HasValues}
+use Rattle.cycle_sim.specs.Tables.{Tables, state_of}
+use Rattle.settled_model.specs.declared.opening.Opening.{Opening}
+use Rattle.settled_model.specs.Held.{valuation}
+use Rattle.settled_model.specs.Opening.{Opens, stands_for}
+use Rattle.emu_app.specs.Runs.{opened_with}
+use Rattle.emu_app.proofs.Replaying.{if_ok, opened_values, opens_inputs}
+use Rattle.emu_app.proofs.replay.load.Goals as goal
+
+pub open-requires : goal.open-requires
+open-requires c =
+    subst (λ (o : Opening). Opens c.args.ranked.now.design o) (sym c.opening_with.ensures)
+    (opens_inputs c.input_is_input_bit.ensures c.args.ranked.now.design c.args.inputs c.requires.inputs)
+
+pub returns-clause-loaded : goal.returns-clause-loaded
+returns-clause-loaded c =
+    let p : Parts = c.args.ranked.now.design in
+    let design : IsDesign p = subst (λ (q : Parts). IsDesign q) c.design.ensures c.stands.ensures.design in
+    let fits : OpeningFits p (opened_with c.args.inputs) = c.openings_fit.ensures p _ (opens_inputs c.input_is_input_bit.ensures p c.args.inputs c.requires.inputs) in
+    let opened : IsOpened p (opened_with c.args.inputs) (valuation c.in_ok-settled.settled) =
+    subst (λ (o : Opening). IsOpened p (stands_for o) (valuation c.in_ok-settled.settled)) c.opening_with.ensures c.in_ok-settled.ensures.opened in
+    let values : (v : Valuation) → IsOpened p (opened_with c.args.inputs) v → HasValues p c.values.result.now v =
+    opened_values c.opened_are_same.ensures p c.args.inputs c.in_ok-settled.settled c.values.result.now design c.stands-2.ensures.ranked fits c.values.ensures.values opened in
+    let loaded : IfOk c.from_values.result (λ t. (v : Valuation) → HasValues p c.values.result.now v → IsLoaded p c.args.results.now v (state_of t)) =
+    subst (λ (q : Parts). IfOk c.from_values.result (λ t. (v : Valuation) → HasValues q c.values.result.now v → IsLoaded q c.args.results.now v (state_of t))) c.design-2.ensures c.from_values.ensures.loaded in
+    if_ok (λ (t : Tables). (v : Valuation) → HasValues p c.values.result.now v → IsLoaded p c.args.results.now v (state_of t))
+    (λ (t : Tables). (v : Valuation) → IsOpened p (opened_with c.args.inputs) v → IsLoaded p c.args.results.now v (state_of t))
+    c.from_values.result
+    (λ t here v is. here v (values v is))
+    loaded
