@@ -1,5 +1,5 @@
 -- What the work of a command comes to, where its answers and its traces are told of more.
-use Rattle.std.proofs.Common.{ℕ, ◌≡◌, ◌⊎◌, List, Option, Result, Ok, Err, inl, inr, refl}
+use Rattle.std.proofs.Common.{ℕ, List, Option, Result, Ok, Err, inl, inr, refl}
 use Rattle.emu_io.specs.declared.files.StoreFault.{StoreFault}
 use Rattle.emu_io.specs.declared.files.StoreFault.TheVariants as store
 use Rattle.emu_app.specs.declared.answer.Answer.{Answer}

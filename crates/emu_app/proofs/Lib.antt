@@ -4,11 +4,13 @@ pub mod OneCases
 pub mod FirstUnread
 pub mod Recordings
 mod Agreeing
+pub mod Comes
 pub mod Endings
 mod Refusals
 pub mod FreeTests
 pub mod Completing
 pub mod Circles
-pub mod Comes
+pub mod Settling
+mod Working
 pub mod Fitness
 pub mod Replaying

@@ -58,7 +58,7 @@ pub fn read_order<'d>(
     requires count { length texts.now ≡ text_count command }
     requires groups { Reads command What.Groups }
     requires before { SaysDesign top.now (texts_of command texts.now What.Design) design.now }
-    ensures means { AllMean command top.now (texts_of command texts.now) (λ ranked. (ranked.design ≡ design.now) × DesignSays top.now (texts_of command texts.now) design.now) result }
+    ensures { AllMean command top.now (texts_of command texts.now) (λ ranked. (ranked.design ≡ design.now) × DesignSays top.now (texts_of command texts.now) design.now) result }
 {
     let ranked = rank_design(alloc, design)?;
     read_groups(alloc, text_at(command, texts, What::Groups))?;

@@ -1,5 +1,6 @@
 use Rattle.std.proofs.Common.{rules, ◌≡◌, Err, subst, sym, arith}
 use Rattle.design_core.specs.Dependency.{IsRanked}
+use Rattle.clock_rank.specs.Orders.{RankedDesign}
 use Rattle.domain_groups.specs.NoGroups.{SaysNoGroups}
 use Rattle.emu_app.specs.declared.what.What.TheVariants.{Groups}
 use Rattle.emu_app.specs.Fetching.{texts_of}
@@ -15,7 +16,7 @@ returns-in_err-read_groups c =
     let ranked : IsRanked c.args.design.now = search rules in
     let means : Means Groups (λ _. SaysNoGroups (texts Groups)) (Err c.in_err-read_groups.field-0.0) =
     subst (λ bytes. Means Groups (λ _. SaysNoGroups bytes) (Err c.in_err-read_groups.field-0.0)) c.text_at.ensures c.in_err-read_groups.ensures in
-    subst (AllMean c.args.command c.args.top.now texts (λ ranked. (ranked.design ≡ c.args.design.now) × DesignSays c.args.top.now texts c.args.design.now)) (sym same)
-    (refused_as (λ _. SaysNoGroups (texts Groups)) (λ ranked. (ranked.design ≡ c.args.design.now) × DesignSays c.args.top.now texts c.args.design.now) c.args.command c.args.top.now texts Groups c.in_err-read_groups.field-0.0 means c.requires.groups (omega arith)
+    subst (AllMean c.args.command c.args.top.now texts (λ (ranked : RankedDesign). (ranked.design ≡ c.args.design.now) × DesignSays c.args.top.now texts c.args.design.now)) (sym same)
+    (refused_as (λ _. SaysNoGroups (texts Groups)) (λ (ranked : RankedDesign). (ranked.design ≡ c.args.design.now) × DesignSays c.args.top.now texts c.args.design.now) c.args.command c.args.top.now texts Groups c.in_err-read_groups.field-0.0 means c.requires.groups (omega arith)
     (λ none read. none (tt {0}) read)
     (before_groups c.args.command c.args.top.now texts c.args.design.now c.requires.before ranked))
