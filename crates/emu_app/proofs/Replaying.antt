@@ -1,5 +1,5 @@
 -- What running recorded events on results comes to.
-use Rattle.std.proofs.Common.{ℕ, zero, suc, ◌≡◌, ◌<◌, ◌≤◌, ◌⊎◌, Bool, true, false, List, [], ◌∷◌, length, get_or, map, take, Option, Some, None, Result, Ok, Err, IfOk, IsTrue, slice_get, Contains, codes, inl, inr, refl, sym, ◌∙◌, ap, subst, arith}
+use Rattle.std.proofs.Common.{ℕ, zero, suc, ◌≡◌, ◌<◌, ◌≤◌, Bool, true, false, List, [], ◌∷◌, length, get_or, map, take, Option, Some, Result, Ok, Err, IfOk, IsTrue, slice_get, Contains, inr, refl, sym, ◌∙◌, ap, subst, arith}
 use Rattle.std.proofs.lemmas.List.{take-map}
 use Rattle.std.proofs.lemmas.Map.Views.{Contains-from_any}
 use Rattle.std.proofs.lemmas.Option.{slice_get_within, get_or_from_slice_get, slice_get-get_or}
@@ -10,7 +10,7 @@ use Rattle.design_core.specs.declared.parts.Parts.{Parts}
 use Rattle.design_core.specs.declared.values.Event.{Event}
 use Rattle.design_core.specs.declared.values.PortBit.{PortBit}
 use Rattle.design_core.specs.Dependency.{IsRanked}
-use Rattle.design_core.specs.Design.{IsDesign, is_net, net_count, port_bits}
+use Rattle.design_core.specs.Design.{IsDesign, is_net, port_bits}
 use Rattle.design_core.specs.Event.{IsHistory, HasOneHistory}
 use Rattle.design_core.specs.Influence.{Group, all_groups}
 use Rattle.design_core.specs.Settled.{IsOpened, OpeningFits}
@@ -25,7 +25,7 @@ use Rattle.emu_machine.specs.declared.results.Results.{Results}
 use Rattle.emu_machine.specs.declared.schedule.Frame.{Frame}
 use Rattle.emu_machine.specs.declared.place.Place.TheVariants as place
 use Rattle.emu_machine.specs.declared.map.Spot.{Spot}
-use Rattle.emu_machine.specs.Acceptance.{A2, A4, A5, A7, A9, Holds, frame_differs}
+use Rattle.emu_machine.specs.Acceptance.{A2, A4, A5, A7, Holds, frame_differs}
 use Rattle.emu_machine.specs.Headline.{EventsFit, event_values}
 use Rattle.emu_machine.specs.Law.{IsCase, MapFits}
 use Rattle.emu_machine.specs.Mapped.{IsLoaded}
@@ -38,22 +38,16 @@ use Rattle.schedule_check.specs.Verdict.{all_inputs}
 use Rattle.settled_model.specs.Held.{Held, valuation}
 use Rattle.settled_model.specs.Opening.{AreInputs, Opens}
 use Rattle.settled_model.specs.Runs.{OpeningsFit}
-use Rattle.event_replay.specs.Runs.{machine_trace, spots_of, BreaksOff, HasRun, ReplayMeans as RunMeans}
+use Rattle.event_replay.specs.Runs.{machine_trace, spots_of, BreaksOff, ReplayMeans as RunMeans}
 use Rattle.event_replay.specs.Settings.{AreInputBits}
 use Rattle.trace_law.specs.Traces.{BrokenTraces, OpenedAreSame, TracesAgree}
 use Rattle.emu_app.specs.declared.answer.Answer.{Answer}
-use Rattle.emu_app.specs.declared.answer.Answer.TheVariants as answer
 use Rattle.emu_app.specs.declared.plan_texts.OneChip.{OneChip}
 use Rattle.emu_app.specs.declared.recording.Recording.{Recording}
-use Rattle.emu_app.specs.declared.refusal.Unread.{Unread}
-use Rattle.emu_app.specs.declared.refusal.Unread.TheVariants as unread
 use Rattle.emu_app.specs.declared.replay.Replayed.{Replayed}
-use Rattle.emu_app.specs.declared.command.Command.{Command}
-use Rattle.emu_app.specs.declared.command.Command.TheVariants.{Replay}
-use Rattle.emu_app.specs.declared.what.What.TheVariants.{Design, Cells, Groups, Board, Netlist, Schedule as ScheduleText, Map, Opening, Events}
 use Rattle.emu_app.specs.Answers.{Comes, RejectsReplay, ReplayMeans, Replays, TraceStops, WritesTrace}
 use Rattle.emu_app.specs.Fetching.{Texts}
-use Rattle.emu_app.specs.Reading.{AllMean, BoardSays, EarlierAreRead, ReplayedSays, ResultsSay, StandForOneReplay, TextsTellCasesApart, TextsTellRecordingsApart, case_of}
+use Rattle.emu_app.specs.Reading.{ReplayedSays, StandForOneReplay, TextsTellCasesApart, TextsTellRecordingsApart, case_of}
 use Rattle.emu_app.specs.Runs.{CanReplay, HasInputBits, IsMachineTrace, IsRun, IsUnfit, opened_with, opening_of}
 use Rattle.emu_app.proofs.OneCases.{is_case, reads_case}
 
