@@ -38,17 +38,23 @@ further_words a b c d xs ys e = cc
 abbrev pub words_with : Command → List ℕ → List (List ℕ) → CommandWords
 words_with command top names = record { command = command; top = top; names = names }
 
+-- the first letter of a word
+letter : List ℕ → ℕ
+letter [] = 0
+letter (b ∷ bs) = b
+
 -- a word is that of one command
 one_word : (a b : Command) → command_word a ≡ command_word b → a ≡ b
+unfolding letter
 one_word Check Check same = refl
 one_word Settle Settle same = refl
 one_word Replay Replay same = refl
-one_word Check Settle same = absurd (let e : command_word Check ≡ command_word Settle = same in cc)
-one_word Check Replay same = absurd (let e : command_word Check ≡ command_word Replay = same in cc)
-one_word Settle Check same = absurd (let e : command_word Settle ≡ command_word Check = same in cc)
-one_word Settle Replay same = absurd (let e : command_word Settle ≡ command_word Replay = same in cc)
-one_word Replay Check same = absurd (let e : command_word Replay ≡ command_word Check = same in cc)
-one_word Replay Settle same = absurd (let e : command_word Replay ≡ command_word Settle = same in cc)
+one_word Check Settle same = absurd (let e : 99 ≡ 115 = ap letter same in omega (arith, e))
+one_word Check Replay same = absurd (let e : 99 ≡ 114 = ap letter same in omega (arith, e))
+one_word Settle Check same = absurd (let e : 115 ≡ 99 = ap letter same in omega (arith, e))
+one_word Settle Replay same = absurd (let e : 115 ≡ 114 = ap letter same in omega (arith, e))
+one_word Replay Check same = absurd (let e : 114 ≡ 99 = ap letter same in omega (arith, e))
+one_word Replay Settle same = absurd (let e : 114 ≡ 115 = ap letter same in omega (arith, e))
 
 first_word : (a b c d : List ℕ) (xs ys : List (List ℕ)) → a ∷ b ∷ xs ≡ c ∷ d ∷ ys → a ≡ c
 first_word a b c d xs ys e = cc

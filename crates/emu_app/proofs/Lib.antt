@@ -11,6 +11,5 @@ pub mod FreeTests
 pub mod Completing
 pub mod Circles
 pub mod Settling
-mod Working
 pub mod Fitness
 pub mod Replaying
