@@ -1,10 +1,12 @@
 #!/usr/bin/env python3
-"""Times `check` on chains of inverters, beside a plain Rust program that does the same work.
+"""Times commands on chains of inverters, beside a plain Rust program that does the same work.
 
-First designs that are read and then refused for their last gate, an `and`: fetching, tokens, grammar.
-Then whole commands that end with `accepted`: all seven texts are read and judged. Prints a line for each
-size and program: seconds (the best of three runs), and the most memory. Run it after
-`bash examples/inverter/run.sh`, which builds the program; `rustc` must be on the path.
+First designs that `check` reads and then refuses for their last gate, an `and`: fetching, tokens, grammar.
+Then whole commands `check` that end with `accepted`: all seven texts are read and judged. Then `settle` and
+`replay` of events that change the one input each time. Prints for each size a line for each program, with
+seconds (the best of three runs) and the most memory, and one with the ratios of the two. Run it after
+`bash examples/inverter/run.sh`, which builds the program; `rustc` must be on the path. Words after the
+script's name choose the kinds of row: read, check, settle, replay.
 """
 import os
 import resource
@@ -16,6 +18,14 @@ import time
 TOP = os.path.dirname(os.path.dirname(os.path.abspath(__file__)))
 EMU = os.path.join(TOP, "crates", "emu", "out", "emu")
 NAMES = ["design.v", "cells.json", "groups.json", "board.json", "netlist.v", "schedule.json", "map.json"]
+RUN = ["opening.json", "events.txt"]
+WORDS = {
+    "check": ["check", "t"] + NAMES,
+    "settle": ["settle", "t"] + NAMES[:3] + RUN,
+    "replay": ["replay", "t"] + NAMES + RUN,
+}
+SIZES = (10_000, 50_000, 200_000)
+EVENTS = 1_000
 
 
 def design(count, comment):
@@ -59,45 +69,78 @@ def texts(count):
     ]
 
 
-def measure(program, folder):
+def events():
+    """The input goes up and down by turns."""
+    return "".join("* n0=%d\n" % (k % 2) for k in range(1, EVENTS + 1))
+
+
+def trace(count):
+    """What the events give: after so many inverters the output is the input, or its opposite."""
+    return "".join("%d n%d=%d\n" % (k, count, (k + count) % 2) for k in range(1, EVENTS + 1))
+
+
+def measure(program, folder, command):
     """Runs a program once. This is done in a small process, since a child begins with its parent's memory."""
     before = time.monotonic()
-    process = subprocess.Popen([program, "check", "t"] + NAMES, cwd=folder, stdout=subprocess.PIPE)
+    process = subprocess.Popen([program] + WORDS[command], cwd=folder, stdout=subprocess.PIPE)
     printed = process.stdout.read().decode()
     _, _, usage = os.wait4(process.pid, 0)
     print(time.monotonic() - before, usage.ru_maxrss * 1024, repr(printed))
 
 
-def measured(program, folder, wanted):
-    told = subprocess.run([sys.executable, __file__, program, folder], check=True, capture_output=True, text=True).stdout
+def measured(program, folder, command, wanted):
+    words = [sys.executable, __file__, "--measure", program, folder, command]
+    told = subprocess.run(words, check=True, capture_output=True, text=True).stdout
     seconds, memory, printed = told.split(" ", 2)
-    assert printed.strip() == repr(wanted), printed
+    assert printed.strip() == repr(wanted), printed[:200]
     return float(seconds), int(memory)
 
 
-def compare(folder, label, written, wanted, plain):
-    for name, text in zip(NAMES, written):
+def compare(folder, command, label, written, wanted, plain):
+    for name, text in zip(NAMES + RUN, written):
         with open(os.path.join(folder, name), "w") as file:
             file.write(text)
+    best = {}
     for who, program in (("emu", EMU), ("plain", plain)):
-        best = min(measured(program, folder, wanted) for _ in range(3))
-        print(f"{label} {who} {best[0]:.3f} s {best[1] / 1e6:.1f} MB")
+        best[who] = min(measured(program, folder, command, wanted) for _ in range(3))
+        print(f"{label} {who} {best[who][0]:.3f} s {best[who][1] / 1e6:.1f} MB")
+    time_ratio, memory_ratio = (ours / theirs for ours, theirs in zip(best["emu"], best["plain"]))
+    print(f"{label} against plain: time {time_ratio:.1f} memory {memory_ratio:.1f}", flush=True)
 
 
-def main():
+def read_rows(folder, plain):
+    one = texts(1)
+    for size in (1 << 20, 8 << 20, (64 << 20) - 64):
+        text = long_design(size)
+        compare(folder, "check", f"read {len(text)} bytes", [text] + one[1:], "refused design NotYet\n", plain)
+
+
+def check_rows(folder, plain):
+    for count in SIZES:
+        compare(folder, "check", f"check {count} inverters", texts(count), "accepted\nframe * 1\n", plain)
+
+
+def run_rows(folder, plain, command):
+    for count in SIZES:
+        label = f"{command} {count} inverters {EVENTS} events"
+        compare(folder, command, label, texts(count) + ["{}\n", events()], trace(count), plain)
+
+
+def main(kinds):
     resource.setrlimit(resource.RLIMIT_CORE, (0, 0))
     with tempfile.TemporaryDirectory() as folder:
         plain = os.path.join(folder, "plain")
         subprocess.run(["rustc", "-O", os.path.join(TOP, "bench", "plain.rs"), "-o", plain], check=True)
-        one = texts(1)
-        for size in (1 << 20, 8 << 20, (64 << 20) - 64):
-            text = long_design(size)
-            compare(folder, f"read {len(text)} bytes", [text] + one[1:], "refused design NotYet\n", plain)
-        for count in (10_000, 50_000, 200_000):
-            compare(folder, f"check {count} inverters", texts(count), "accepted\nframe * 1\n", plain)
+        for kind in kinds:
+            if kind == "read":
+                read_rows(folder, plain)
+            elif kind == "check":
+                check_rows(folder, plain)
+            else:
+                run_rows(folder, plain, kind)
 
 
-if len(sys.argv) == 3:
-    measure(sys.argv[1], sys.argv[2])
+if sys.argv[1:2] == ["--measure"]:
+    measure(*sys.argv[2:])
 else:
-    main()
+    main(sys.argv[1:] or ["read", "check", "settle", "replay"])

@@ -1,11 +1,16 @@
-//! The same work as `emu check` on designs of `buf` and `not`, as plain Rust without proofs.
+//! The same work as `emu check`, `emu settle` and `emu replay` on designs of `buf` and `not`, as plain
+//! Rust without proofs.
 //!
 //! It stands here to be compared with: what the proved program costs in time and memory. It reads the
-//! seven texts, makes tokens and a tree, flattens, reads netlist, schedule and map, and judges the twelve
-//! rules for this form. Compile it with `rustc -O`.
+//! texts of a command, makes tokens and a tree, and flattens; `check` and `replay` read netlist, schedule
+//! and map and judge the rules for this form; `settle` and `replay` read opening and events and print a
+//! trace. Compile it with `rustc -O`.
 
+mod json;
+
+use json::Json;
 use std::collections::HashMap;
-use std::convert::TryFrom;
+use std::io::Write;
 use std::process::exit;
 
 #[derive(Clone, Copy, PartialEq)]
@@ -200,11 +205,19 @@ struct Gate {
     output: u32,
 }
 
-struct Design {
+struct Design<'t> {
     drivers: Vec<Driver>,
     gates: Vec<Gate>,
     inputs: Vec<u32>,
     outputs: Vec<u32>,
+    /// The names of the ports; the first has net 2, and so on.
+    ports: Vec<&'t [u8]>,
+}
+
+impl<'t> Design<'t> {
+    fn name(&self, port: u32) -> &'t [u8] {
+        self.ports[port as usize - 2]
+    }
 }
 
 /// An order of gates in which each stands after those that it reads, given who drives a net.
@@ -225,7 +238,15 @@ fn order(gates: &[Gate], driver: impl Fn(u32) -> Option<u32>) -> Option<Vec<u32>
     (order.len() == gates.len()).then_some(order)
 }
 
-fn flatten(cursor: &Cursor, module: &Module, top: &[u8]) -> Option<Design> {
+/// Gives each gate's output its value, the values of what no gate drives being there.
+fn pass(gates: &[Gate], order: &[u32], values: &mut [bool]) {
+    for k in order {
+        let gate = gates[*k as usize];
+        values[gate.output as usize] = values[gate.input as usize] ^ gate.inverts;
+    }
+}
+
+fn flatten<'t>(cursor: &Cursor<'t>, module: &Module, top: &[u8]) -> Option<Design<'t>> {
     if cursor.bytes(module.name) != top {
         return None;
     }
@@ -308,92 +329,8 @@ fn flatten(cursor: &Cursor, module: &Module, top: &[u8]) -> Option<Design> {
     if gates.iter().any(|g| undriven(&g.input)) || outputs.iter().any(undriven) || gates.len() > 200_000 || drivers.len() > 400_000 {
         return None;
     }
-    Some(Design { drivers, gates, inputs, outputs })
-}
-
-/// A JSON tree.
-enum Json {
-    Number(u64),
-    Text(String),
-    Bool(bool),
-    List(Vec<Json>),
-    Object(Vec<(String, Json)>),
-}
-
-impl Json {
-    fn get(&self, name: &str) -> Option<&Json> {
-        let Json::Object(members) = self else {
-            return None;
-        };
-        members.iter().rev().find(|m| m.0 == name).map(|m| &m.1)
-    }
-
-    fn list(&self) -> Option<&[Json]> {
-        match self {
-            Json::List(items) => Some(items),
-            _ => None,
-        }
-    }
-
-    fn word(&self) -> Option<u32> {
-        match self {
-            Json::Number(n) => u32::try_from(*n).ok(),
-            _ => None,
-        }
-    }
-}
-
-fn json_text(text: &[u8], at: &mut usize) -> Option<String> {
-    let start = *at + 1;
-    let end = start + text[start..].iter().position(|b| *b == b'"')?;
-    *at = end + 1;
-    String::from_utf8(text[start..end].to_vec()).ok()
-}
-
-fn json_list<T>(text: &[u8], at: &mut usize, end: u8, mut one: impl FnMut(&[u8], &mut usize) -> Option<T>) -> Option<Vec<T>> {
-    *at = skip(text, *at + 1)?;
-    let mut items = Vec::new();
-    if text.get(*at) == Some(&end) {
-        *at += 1;
-        return Some(items);
-    }
-    loop {
-        items.push(one(text, at)?);
-        *at = skip(text, *at)?;
-        let byte = *text.get(*at)?;
-        *at += 1;
-        if byte == end {
-            return Some(items);
-        }
-        if byte != b',' {
-            return None;
-        }
-    }
-}
-
-fn json(text: &[u8], at: &mut usize) -> Option<Json> {
-    *at = skip(text, *at)?;
-    match *text.get(*at)? {
-        b'[' => Some(Json::List(json_list(text, at, b']', json)?)),
-        b'{' => Some(Json::Object(json_list(text, at, b'}', |text, at| {
-            *at = skip(text, *at)?;
-            let name = json_text(text, at)?;
-            *at = skip(text, *at)? + 1;
-            Some((name, json(text, at)?))
-        })?)),
-        b'"' => Some(Json::Text(json_text(text, at)?)),
-        b't' | b'f' => {
-            let yes = text[*at] == b't';
-            *at += if yes { 4 } else { 5 };
-            Some(Json::Bool(yes))
-        }
-        _ => {
-            let end = *at + text[*at..].iter().position(|b| !b.is_ascii_digit())?;
-            let value = std::str::from_utf8(&text[*at..end]).ok()?.parse().ok()?;
-            *at = end;
-            Some(Json::Number(value))
-        }
-    }
+    let ports = module.ports.iter().map(|name| cursor.bytes(*name)).collect();
+    Some(Design { drivers, gates, inputs, outputs, ports })
 }
 
 struct Chip {
@@ -511,112 +448,288 @@ fn map(tree: &Json, chip: &Chip) -> Option<Map> {
     fits.then_some(Map { subjects, kept, outputs })
 }
 
-/// Whether the twelve rules hold, for one chip.
-fn judge(design: &Design, room: u64, slots: u32, chip: &Chip, frames: &[Frame], map: &Map) -> bool {
+struct Results {
+    room: u64,
+    slots: u32,
+    chip: Chip,
+    frames: Vec<Frame>,
+    map: Map,
+}
+
+/// An order of the chip's gates, where the rules hold: all twelve, or those that a replay needs.
+fn judge(design: &Design, results: &Results, all: bool) -> Option<Vec<u32>> {
+    let Results { chip, map, .. } = results;
     let driver = |net: u32| design.drivers.get(net as usize).copied();
     let mut gate_of = vec![None; chip.nets as usize];
     for (k, gate) in chip.gates.iter().enumerate() {
         gate_of[gate.output as usize] = Some(k as u32);
     }
-    let Some(order) = order(&chip.gates, |net| gate_of[net as usize]) else {
-        return false;
-    };
+    let order = order(&chip.gates, |net| gate_of[net as usize])?;
     let copied = |gate: &&Gate| matches!(driver(map.subjects[gate.output as usize]), Some(Driver::Gate(_)));
-    if chip.gates.iter().filter(copied).count() as u64 > room {
-        return false;
+    if chip.gates.iter().filter(copied).count() as u64 > results.room {
+        return None;
     }
-    let [frame] = frames else {
-        return false;
+    let [frame] = &results.frames[..] else {
+        return None;
     };
-    if frame.group != "*" || frame.slots.is_empty() || frame.slots.len() > slots as usize {
-        return false;
+    if frame.group != "*" || frame.slots.is_empty() || frame.slots.len() > results.slots as usize {
+        return None;
     }
     let mut used = vec![0; chip.registers.len()];
     for (slot, actions) in frame.slots.iter().enumerate() {
         for [c, register, net] in actions {
             let fits = *c == 0 && (*register as usize) < used.len() && driver(*net) == Some(Driver::Input);
             if !fits || std::mem::replace(&mut used[*register as usize], slot + 1) == slot + 1 || map.subjects[chip.registers[*register as usize] as usize] != *net {
-                return false;
+                return None;
             }
         }
     }
     for gate in &chip.gates {
         let Some(Driver::Gate(k)) = driver(map.subjects[gate.output as usize]) else {
-            return false;
+            return None;
         };
         let original = design.gates[k as usize];
         if original.inverts != gate.inverts || map.subjects[gate.input as usize] != original.input {
-            return false;
+            return None;
         }
     }
     let mut keeps = vec![false; design.drivers.len()];
     for (k, q) in chip.registers.iter().enumerate() {
         let subject = map.subjects[*q as usize];
-        if driver(subject).is_none() {
-            return false;
-        }
+        driver(subject)?;
         if map.kept[k] {
             keeps[subject as usize] = true;
-            if used[k] == 0 && driver(subject) != Some(Driver::Constant) {
-                return false;
+            if all && used[k] == 0 && driver(subject) != Some(Driver::Constant) {
+                return None;
             }
         }
     }
     let subjects = map.outputs.iter().map(|net| map.subjects[*net as usize]);
     if !design.inputs.iter().all(|net| keeps[*net as usize]) || !subjects.eq(design.outputs.iter().copied()) {
-        return false;
+        return None;
     }
+    (!all || outputs_stand(chip, map, &order)).then_some(order)
+}
+
+/// Whether the outputs are right at the opening: no register that is free comes to them.
+fn outputs_stand(chip: &Chip, map: &Map, order: &[u32]) -> bool {
     let mut before = vec![false; chip.nets as usize];
     for (k, q) in chip.registers.iter().enumerate() {
         before[*q as usize] = map.kept[k];
     }
     for k in order {
-        let gate = chip.gates[k as usize];
+        let gate = chip.gates[*k as usize];
         before[gate.output as usize] = before[gate.input as usize];
     }
     map.outputs.iter().all(|net| before[*net as usize])
 }
 
-fn main() {
-    let words: Vec<String> = std::env::args().collect();
-    let [_, _, top, design, cells, groups, board, netlist, schedule_name, map_name] = &words[..] else {
-        println!("usage");
-        exit(1)
+/// The one bit of a value in hexadecimal.
+fn bit(digits: &[u8]) -> Option<bool> {
+    let (last, zeros) = digits.split_last()?;
+    (zeros.iter().all(|digit| *digit == b'0') && matches!(last, b'0' | b'1')).then_some(*last == b'1')
+}
+
+type Inputs<'t> = HashMap<&'t [u8], u32>;
+
+/// The values that an opening gives to inputs.
+fn opening(tree: &Json, inputs: &Inputs) -> Option<Vec<(u32, bool)>> {
+    let Json::Object(_) = tree else {
+        return None;
     };
-    let texts: Vec<Vec<u8>> = [design, cells, groups, board, netlist, schedule_name, map_name]
-        .map(|name| std::fs::read(name).expect("a text is held"))
-        .into();
+    if tree.get("ones").is_some() || tree.get("words").is_some() {
+        return None;
+    }
+    let value = |(name, value): &(String, Json)| match value {
+        Json::Text(digits) => Some((*inputs.get(name.as_bytes())?, bit(digits.as_bytes())?)),
+        _ => None,
+    };
+    match tree.get("inputs") {
+        None => Some(Vec::new()),
+        Some(Json::Object(members)) => members.iter().map(value).collect(),
+        Some(_) => None,
+    }
+}
+
+/// The values that the words of an event give. `set` has for each net the last line that gave it one.
+fn event(line: &[u8], number: usize, inputs: &Inputs, set: &mut [usize]) -> Option<Vec<(u32, bool)>> {
+    let mut words = line.split(|byte| matches!(byte, b' ' | b'\t')).filter(|word| !word.is_empty());
+    (words.next()? == b"*").then_some(())?;
+    let mut values = Vec::new();
+    for word in words {
+        let equals = word.iter().rposition(|byte| *byte == b'=')?;
+        let net = *inputs.get(&word[..equals])?;
+        if std::mem::replace(&mut set[net as usize], number) == number {
+            return None;
+        }
+        values.push((net, bit(&word[equals + 1..])?));
+    }
+    Some(values)
+}
+
+fn events(text: &[u8], design: &Design, inputs: &Inputs) -> Option<Vec<Vec<(u32, bool)>>> {
+    let mut set = vec![0; design.ports.len() + 2];
+    let mut events = Vec::new();
+    for (line, number) in text.split(|byte| *byte == b'\n').zip(1..) {
+        let end = line.iter().rposition(|byte| *byte != b'\r').map_or(0, |last| last + 1);
+        let line = &line[..end];
+        if line.first() == Some(&b'#') || line.iter().all(|byte| matches!(byte, b' ' | b'\t')) {
+            continue;
+        }
+        events.push(event(line, number, inputs, &mut set)?);
+    }
+    Some(events)
+}
+
+/// A line for each event: `step` does it, and tells the value of each output.
+fn trace(design: &Design, events: &[Vec<(u32, bool)>], mut step: impl FnMut(&[(u32, bool)], &mut Vec<bool>)) -> Vec<u8> {
+    let mut text = Vec::new();
+    let mut bits = Vec::new();
+    for (event, number) in events.iter().zip(1u64..) {
+        bits.clear();
+        step(event, &mut bits);
+        text.extend(number.to_string().as_bytes());
+        for (port, bit) in design.outputs.iter().zip(&bits) {
+            text.push(b' ');
+            text.extend(design.name(*port));
+            text.extend(if *bit { b"=1" } else { b"=0" });
+        }
+        text.push(b'\n');
+    }
+    text
+}
+
+fn put(values: &[(u32, bool)], table: &mut [bool]) {
+    for (net, value) in values {
+        table[*net as usize] = *value;
+    }
+}
+
+/// The settled valuation that the values of the inputs give.
+fn opened(design: &Design, order: &[u32], given: &[(u32, bool)]) -> Vec<bool> {
+    let mut values = vec![false; design.drivers.len()];
+    values[1] = true;
+    put(given, &mut values);
+    pass(&design.gates, order, &mut values);
+    values
+}
+
+fn settle(design: &Design, order: &[u32], mut values: Vec<bool>, events: &[Vec<(u32, bool)>]) -> Vec<u8> {
+    trace(design, events, |event, bits| {
+        put(event, &mut values);
+        pass(&design.gates, order, &mut values);
+        bits.extend(design.outputs.iter().map(|net| values[*net as usize]));
+    })
+}
+
+/// The trace of the machine that is loaded from a valuation. `order` is one of the chip's gates.
+fn replay(design: &Design, results: &Results, order: &[u32], values: Vec<bool>, events: &[Vec<(u32, bool)>]) -> Vec<u8> {
+    let Results { chip, map, .. } = results;
+    let mut shown = vec![false; chip.nets as usize];
+    for (q, kept) in chip.registers.iter().zip(&map.kept) {
+        shown[*q as usize] = *kept && values[map.subjects[*q as usize] as usize];
+    }
+    let mut outside = values;
+    trace(design, events, |event, bits| {
+        put(event, &mut outside);
+        for actions in &results.frames[0].slots {
+            for [_, register, net] in actions {
+                shown[chip.registers[*register as usize] as usize] = outside[*net as usize];
+            }
+            pass(&chip.gates, order, &mut shown);
+        }
+        bits.extend(map.outputs.iter().map(|net| shown[*net as usize]));
+    })
+}
+
+fn tree(text: &[u8], what: &str) -> Json {
+    json::read(text).unwrap_or_else(|| refuse(what))
+}
+
+/// The room and the slots of a board of one chip and no wires.
+fn board(tree: &Json) -> Option<(u64, u32)> {
+    (tree.get("version")?.word()? == 1 && tree.get("wires")?.list()?.is_empty()).then_some(())?;
+    let slots = tree.get("slots")?.word().filter(|slots| (1..=65_535).contains(slots))?;
+    match tree.get("chips")?.list()? {
+        [chip] => match chip.get("room")? {
+            Json::Number(room) => Some((*room, slots)),
+            _ => None,
+        },
+        _ => None,
+    }
+}
+
+fn read_results(board_text: &[u8], netlist: &[u8], schedule_text: &[u8], map_text: &[u8]) -> Results {
+    let Some((room, slots)) = board(&tree(board_text, "board")) else { refuse("board") };
+    let Some(list) = tokens(netlist) else { refuse("netlist") };
+    let Some(chip) = chip(&mut Cursor { text: netlist, tokens: &list, at: 0 }) else { refuse("netlist") };
+    let Some(frames) = schedule(&tree(schedule_text, "schedule")) else { refuse("schedule") };
+    let Some(map) = map(&tree(map_text, "map"), &chip) else { refuse("map") };
+    Results { room, slots, chip, frames, map }
+}
+
+/// The opened valuation, and the events.
+fn read_run(design: &Design, order: &[u32], opening_text: &[u8], events_text: &[u8]) -> (Vec<bool>, Vec<Vec<(u32, bool)>>) {
+    let inputs = design.inputs.iter().map(|net| (design.name(*net), *net)).collect();
+    let Some(given) = opening(&tree(opening_text, "opening"), &inputs) else { refuse("opening") };
+    let Some(events) = events(events_text, design, &inputs) else { refuse("events") };
+    (opened(design, order, &given), events)
+}
+
+fn reject() -> ! {
+    println!("rejected");
+    exit(3)
+}
+
+fn print(text: &[u8]) {
+    std::io::stdout().write_all(text).expect("the trace is written")
+}
+
+fn main() {
+    let words: Vec<String> = std::env::args().skip(1).collect();
+    let words: Vec<&str> = words.iter().map(String::as_str).collect();
+    let (top, names) = match &words[..] {
+        ["check", top, names @ ..] if names.len() == 7 => (top, names),
+        ["settle", top, names @ ..] if names.len() == 5 => (top, names),
+        ["replay", top, names @ ..] if names.len() == 9 => (top, names),
+        _ => {
+            println!("usage");
+            exit(1)
+        }
+    };
+    let texts: Vec<Vec<u8>> = names.iter().map(|name| std::fs::read(name).expect("a text is held")).collect();
     let Some(list) = tokens(&texts[0]) else { refuse("design") };
     let mut cursor = Cursor { text: &texts[0], tokens: &list, at: 0 };
-    let Some(tree) = module(&mut cursor) else { refuse("design") };
-    let Some(design) = flatten(&cursor, &tree, top.as_bytes()) else { refuse("design") };
+    let Some(module) = module(&mut cursor) else { refuse("design") };
+    let Some(design) = flatten(&cursor, &module, top.as_bytes()) else { refuse("design") };
     let drives = |net: u32| match design.drivers[net as usize] {
         Driver::Gate(k) => Some(k),
         _ => None,
     };
-    if order(&design.gates, drives).is_none() {
-        refuse("design")
+    let Some(ranked) = order(&design.gates, drives) else { refuse("design") };
+    if tree(&texts[2], "groups").get("groups").and_then(Json::list).map_or(true, |groups| !groups.is_empty()) {
+        refuse("groups")
     }
-    let tree = |text: &[u8], what| json(text, &mut 0).unwrap_or_else(|| refuse(what));
-    let board = tree(&texts[3], "board");
-    let slots = board.get("slots").and_then(Json::word).unwrap_or_else(|| refuse("board"));
-    let room = match board.get("chips").and_then(Json::list) {
-        Some([chip]) => match chip.get("room") {
-            Some(Json::Number(room)) => *room,
-            _ => refuse("board"),
-        },
-        _ => refuse("board"),
-    };
-    let Some(list) = tokens(&texts[4]) else { refuse("netlist") };
-    let Some(chip) = chip(&mut Cursor { text: &texts[4], tokens: &list, at: 0 }) else { refuse("netlist") };
-    let Some(frames) = schedule(&tree(&texts[5], "schedule")) else { refuse("schedule") };
-    let Some(map) = map(&tree(&texts[6], "map"), &chip) else { refuse("map") };
-    if !judge(&design, room, slots, &chip, &frames, &map) {
-        println!("rejected");
-        exit(3)
-    }
-    println!("accepted");
-    for frame in &frames {
-        println!("frame {} {}", frame.group, frame.slots.len());
+    match &texts[3..] {
+        [opening, events] => {
+            let (values, events) = read_run(&design, &ranked, opening, events);
+            print(&settle(&design, &ranked, values, &events));
+        }
+        [board, netlist, schedule, map, run @ ..] => {
+            let results = read_results(board, netlist, schedule, map);
+            if let [opening, events] = run {
+                let (values, events) = read_run(&design, &ranked, opening, events);
+                let Some(order) = judge(&design, &results, false) else { reject() };
+                print(&replay(&design, &results, &order, values, &events));
+            } else if judge(&design, &results, true).is_some() {
+                println!("accepted");
+                for frame in &results.frames {
+                    println!("frame {} {}", frame.group, frame.slots.len());
+                }
+            } else {
+                reject()
+            }
+        }
+        _ => {}
     }
 }

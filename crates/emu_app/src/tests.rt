@@ -1,9 +1,6 @@
 //! Commands over texts in memory: how each ends, and what it prints, to the byte.
 
-mod cases;
-
 use crate::{Status, run};
-use cases::{ACCEPTED, Case, REFUSED, REJECTED, REJECTED_LATE};
 use emu_io::{List, MemFiles, MemSink, NoMemory, Text, Word};
 use std::alloc::Global;
 use std::test::Fail;
@@ -173,48 +170,6 @@ fn faults_of_the_design_are_told_with_their_bytes(rt: HostRuntime) -> Result<(),
         assert_eq!(rt; ended.out.written(), printed);
         assert_eq!(rt; ended.status, Status::Refused);
     }
-    Ok(())
-}
-
-/// What comes of the check of six texts.
-fn end_of_case(alloc: Global, texts: &[&'static [u8]; 6]) -> Result<Outcome, NoMemory> {
-    let mut files = inverter(alloc, &[])?;
-    hold(alloc, &mut files, b"d.v", texts[0])?;
-    hold(alloc, &mut files, b"g.json", texts[1])?;
-    hold(alloc, &mut files, b"b.json", texts[2])?;
-    hold(alloc, &mut files, b"n.v", texts[3])?;
-    hold(alloc, &mut files, b"s.json", texts[4])?;
-    hold(alloc, &mut files, b"m.json", texts[5])?;
-    end_of(alloc, CHECK, &mut files, &[])
-}
-
-/// Whether each case prints what is told, and ends so.
-fn end_as_told(alloc: Global, cases: &[Case], status: Status) -> Result<bool, NoMemory> {
-    for (texts, printed) in cases {
-        let ended = end_of_case(alloc, texts)?;
-        if ended.out.written() != *printed || ended.status != status {
-            return Ok(false);
-        }
-    }
-    Ok(true)
-}
-
-#[test]
-fn accepted_cases_end_as_told(rt: HostRuntime) -> Result<(), Fail> {
-    assert!(rt; end_as_told(rt.alloc(), &ACCEPTED, Status::Ok)?);
-    Ok(())
-}
-
-#[test]
-fn rejected_cases_end_as_told(rt: HostRuntime) -> Result<(), Fail> {
-    assert!(rt; end_as_told(rt.alloc(), &REJECTED, Status::Rejected)?);
-    assert!(rt; end_as_told(rt.alloc(), &REJECTED_LATE, Status::Rejected)?);
-    Ok(())
-}
-
-#[test]
-fn refused_cases_end_as_told(rt: HostRuntime) -> Result<(), Fail> {
-    assert!(rt; end_as_told(rt.alloc(), &REFUSED, Status::Refused)?);
     Ok(())
 }
 
