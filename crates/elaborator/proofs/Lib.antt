@@ -1,5 +1,6 @@
 pub mod Built
 pub mod Counts
+pub mod Declared
 pub mod GoodParts
 pub mod Joining
 pub mod NoConstants
