@@ -2,7 +2,7 @@
 
 ghost use Rattle.std.specs.Prelude.{◌↔◌, ◌≡◌, ◌≤◌, Some, filter, length, map, IsTrue};
 ghost use Rattle.elaborator.specs.GateDesign.{Answers, GateDesignsArePlain, Judges, NetTable, OwnTable, PartsAnswers, SketchAnswers, TablesAnswers, TreesTellDesignsApart};
-ghost use Rattle.elaborator.specs.GateNames.{all_among, is_implicit, text_of};
+ghost use Rattle.elaborator.specs.GateNames.{AreDifferent, all_among, is_implicit, text_of};
 ghost use Rattle.elaborator.specs.GateParts.{ArePorts, net_names, own_names, parts_with, ports_among, terminals};
 ghost use Rattle.elaborator.specs.GateSketch.{Reads};
 
@@ -155,7 +155,9 @@ fn parts_with(
     tables: &Tables,
 ) -> Result<Parts, ElabFault>
     requires nets { length tables.now.nets ≤ 399998 }
-    requires own { length tables.now.own ≤ 200000 }
+    requires few { length sketch.now.primitives ≤ 200000 }
+    requires own { tables.now.own ≡ map (text_of source.now tokens.now) (own_names sketch.now.primitives) }
+    requires different { AreDifferent tables.now.own }
     ensures { Reads (Some (parts_with (text_of source.now tokens.now) top.now header.now sketch.now tables.now.nets tables.now.own)) result }
 {
     let primitives = sketch.primitives.as_slice();
@@ -164,7 +166,7 @@ fn parts_with(
         net_names: net_list(alloc, nets)?,
         scopes: scope_list(alloc, top, &tables.own)?,
         elements: elements(alloc, source, tokens, nets, primitives)?,
-        paths: paths(alloc, source, tokens, &tables.own, primitives)?,
+        paths: paths(alloc, primitives)?,
         memories: List::new(alloc),
         inputs: ports_given(
             alloc,
