@@ -62,9 +62,6 @@ few_names (p ∷ ps) = go p.name (few_names ps)
     go None less = omega arith
     go (Some name) less = omega arith
 
-pub own_few : (text : ℕ → Name) (ps : List Primitive) (own : List Name) → own ≡ map text (own_names ps) → length ps ≤ 200000 → length own ≤ 200000
-own_few text ps own is small = (let same = ap length is ∙ length-map (own_names ps) text in omega (arith, few_names ps))
-
 -- what holds of the parts that are made from right tables
 pub joined_parts : (text : ℕ → Name) (implicit : ℕ → Bool) (top : Name) (header : List ℕ) (s : Sketch) (nets own : List Name) (p : Parts) → AreNamed text implicit header s → nets ≡ net_names text implicit header s → own ≡ map text (own_names s.primitives) → length (net_names text implicit header s) ≤ 399998 → length s.primitives ≤ 200000 → Some (parts_with text top header s nets own) ≡ Some p
     → AreNamed text implicit header s × (p ≡ parts_of text implicit top header s) × IsWithin p

@@ -1,9 +1,11 @@
 pub mod Built
 pub mod Counts
+pub mod Declared
 pub mod GoodParts
 pub mod Joining
 pub mod NoConstants
 pub mod OneReading
+pub mod Paths
 pub mod Places
 pub mod PlainGates
 pub mod Refusals

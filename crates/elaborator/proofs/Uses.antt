@@ -1,5 +1,5 @@
 -- Names that are used, one after another.
-use Rattle.std.proofs.Common.{◌≡◌, ◌+◌, ◌<◌, ℕ, Bool, true, false, not, ◌||◌, cond, List, [], ◌∷◌, ◌++◌, Option, Some, None, is_some, ap, sym, ◌∙◌, refl, add-one, append_assoc, append-nil, drop, drop-cons, get_or, length, map}
+use Rattle.std.proofs.Common.{◌≡◌, ◌+◌, ◌<◌, ℕ, Bool, true, false, not, ◌||◌, cond, List, [], ◌∷◌, ◌++◌, Option, Some, None, is_some, ap, sym, ◌∙◌, refl, add-one, append_assoc, append-nil, drop, drop-cons, get_or, length, map, arith, length-append}
 use Rattle.std.specs.Prelude.{filter, bytes_eq}
 use Rattle.std.proofs.lemmas.Bool.{false_from_ne_true}
 use Rattle.std.proofs.lemmas.List.Folds.{list_any-append, list_any_at}
@@ -67,6 +67,21 @@ pushed (x ∷ xs) name d new =
 -- the names after one is interned
 pub with_name-is : (names : List Name) (name : Name) → with_name names name ≡ cond (is_among names name) names (names ++ name ∷ [])
 with_name-is names name = ap (λ b. cond b names (names ++ name ∷ [])) (is_some-place names name)
+
+-- names do not become more exactly where the name was among them
+pub stays : (names new : List Name) (name : Name) → new ≡ with_name names name → length new ≡ length names → is_among names name ≡ true
+stays names new name is same = go (is_among names name) refl
+  where
+    go : (b : Bool) → is_among names name ≡ b → b ≡ true
+    go true e = refl
+    go false e =
+        let last : new ≡ names ++ name ∷ [] = is ∙ with_name-is names name ∙ ap (λ b. cond b names (names ++ name ∷ [])) e in
+        let long : length new ≡ length names + 1 = ap length last ∙ length-append names (name ∷ []) in
+        absurd (omega (arith, same, long))
+
+pub grows : (names new : List Name) (name : Name) → new ≡ with_name names name → (length new ≡ length names → ⊥) → is_among names name ≡ false
+grows names new name is more =
+    false_from_ne_true (is_among names name) (λ among. more (ap length (is ∙ with_name-is names name ∙ ap (λ b. cond b names (names ++ name ∷ [])) among)))
 
 -- the names so far are different, and with those that are left they are all names
 pub record SoFar (names left all : List Name) : Type 0 where

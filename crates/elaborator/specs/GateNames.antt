@@ -21,6 +21,10 @@ text_of source tokens place = name_at (words_of source tokens) place
 abbrev pub is_implicit : List Token → ℕ → Bool
 is_implicit tokens place = option_map_or (λ token. token.implicit) (slice_get tokens place) false
 
+-- whether an undeclared name does not become a wire at a token
+abbrev pub is_declared : List Token → ℕ → Bool
+is_declared tokens place = not (is_implicit tokens place)
+
 -- whether a name is one of these
 abbrev pub is_among : List Name → Name → Bool
 is_among names name = list_any (bytes_eq name) names

@@ -66,6 +66,21 @@ scope_of own name = option_map_or (λ place. place + 1) (place_among own name) 0
 abbrev pub path_of : (ℕ → Name) → List Name → Option ℕ → ℕ
 path_of text own name = option_map_or (λ place. scope_of own (text place)) name 0
 
+-- the scope of a primitive after so many that have a name
+abbrev pub scope_after : ℕ → Option ℕ → ℕ
+scope_after named None = 0
+scope_after named (Some name) = named + 1
+
+-- how many have a name with one more
+abbrev pub named_with : ℕ → Option ℕ → ℕ
+named_with named None = named
+named_with named (Some name) = named + 1
+
+-- the scopes of primitives whose names are all different, after so many that have a name: in the order of the names
+abbrev pub scopes_after : ℕ → List Primitive → List ℕ
+scopes_after named [] = []
+scopes_after named (p ∷ ps) = scope_after named p.name ∷ scopes_after (named_with named p.name) ps
+
 -- the parts, where the nets and the names of primitives are these
 abbrev pub parts_with : (ℕ → Name) → Name → List ℕ → Sketch → List Name → List Name → Parts
 parts_with text top header s nets own =

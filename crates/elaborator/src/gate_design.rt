@@ -1,13 +1,15 @@
 //! Reading a module of `buf` and `not` gates from its tree.
 
-ghost use Rattle.std.specs.Prelude.{◌↔◌, ◌≡◌, ◌≤◌, Some, length, map, IsTrue};
+ghost use Rattle.std.specs.Prelude.{◌↔◌, ◌≡◌, ◌≤◌, Some, filter, length, map, IsTrue};
 ghost use Rattle.elaborator.specs.GateDesign.{Answers, GateDesignsArePlain, Judges, NetTable, OwnTable, PartsAnswers, SketchAnswers, TablesAnswers, TreesTellDesignsApart};
-ghost use Rattle.elaborator.specs.GateNames.{all_among, is_implicit, text_of};
+ghost use Rattle.elaborator.specs.GateNames.{AreDifferent, all_among, is_implicit, text_of};
 ghost use Rattle.elaborator.specs.GateParts.{ArePorts, net_names, own_names, parts_with, ports_among, terminals};
 ghost use Rattle.elaborator.specs.GateSketch.{Reads};
 
 use crate::fault::ElabFault;
-use crate::gate_names::{add_names, are_all_among, are_none_among, distinct_names, text_at};
+use crate::gate_names::{
+    add_names, are_all_among, are_declared, are_none_among, distinct_names, text_at,
+};
 use crate::gate_parts::{
     ELEMENT_LIMIT, NAME_LIMIT, elements, implicit_places, net_list, own_names, paths, ports_among,
     scope_list, terminals,
@@ -105,7 +107,8 @@ fn own_table(
     Ok(own)
 }
 
-/// Judges the terminals of primitives.
+/// Judges the terminals of primitives. Those at which an undeclared name becomes a wire are nets, so
+/// that only the others are looked up.
 fn check_terminals(
     alloc: Global,
     source: &[u8],
@@ -113,10 +116,11 @@ fn check_terminals(
     nets: &Names,
     primitives: &[Primitive],
 ) -> Result<(), ElabFault>
+    requires { IsTrue (all_among nets.now (map (text_of source.now tokens.now) (filter (is_implicit tokens.now) (terminals primitives.now)))) }
     ensures { Judges (IsTrue (all_among nets.now (map (text_of source.now tokens.now) (terminals primitives.now)))) result }
 {
     let places = terminals(alloc, primitives)?;
-    if !are_all_among(nets, source, tokens, places.as_slice()) {
+    if !are_declared(nets, source, tokens, places.as_slice()) {
         return Err(ElabFault::NotYet);
     }
     Ok(())
@@ -151,7 +155,9 @@ fn parts_with(
     tables: &Tables,
 ) -> Result<Parts, ElabFault>
     requires nets { length tables.now.nets ≤ 399998 }
-    requires own { length tables.now.own ≤ 200000 }
+    requires few { length sketch.now.primitives ≤ 200000 }
+    requires own { tables.now.own ≡ map (text_of source.now tokens.now) (own_names sketch.now.primitives) }
+    requires different { AreDifferent tables.now.own }
     ensures { Reads (Some (parts_with (text_of source.now tokens.now) top.now header.now sketch.now tables.now.nets tables.now.own)) result }
 {
     let primitives = sketch.primitives.as_slice();
@@ -160,7 +166,7 @@ fn parts_with(
         net_names: net_list(alloc, nets)?,
         scopes: scope_list(alloc, top, &tables.own)?,
         elements: elements(alloc, source, tokens, nets, primitives)?,
-        paths: paths(alloc, source, tokens, &tables.own, primitives)?,
+        paths: paths(alloc, primitives)?,
         memories: List::new(alloc),
         inputs: ports_given(
             alloc,

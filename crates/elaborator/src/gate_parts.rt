@@ -3,7 +3,7 @@
 ghost use Rattle.std.specs.Prelude.{[], ◌++◌, ◌≡◌, ◌≤◌, ◌∷◌, Some, None, codes, filter, filter_map, flat_map, length, map, IfOk, OnOk};
 ghost use Rattle.elaborator.specs.GateParts.{top_name};
 ghost use Rattle.elaborator.specs.GateNames.{is_among, is_implicit, text_of};
-ghost use Rattle.elaborator.specs.GateParts.{element_of, net_of, own_names, own_scope, path_of, port_of, ports_among, scope_of, terminals};
+ghost use Rattle.elaborator.specs.GateParts.{element_of, net_of, own_names, own_scope, port_of, ports_among, scopes_after, terminals};
 
 use crate::gate_names::{is_among, is_implicit, text_at};
 use crate::gate_sketch::Primitive;
@@ -72,17 +72,6 @@ fn net_of(nets: &Names, text: &[u8]) -> NetId
     }
 }
 
-/// The scope of a primitive's name; the top where no primitive has it.
-fn scope_of(own: &Names, text: &[u8]) -> u32
-    requires { length own.now ≤ 200000 }
-    ensures { result ≡ scope_of own.now text.now }
-{
-    match own.find(text) {
-        Some(place) => place + 1,
-        None => 0,
-    }
-}
-
 /// A list of one net.
 fn one_net(alloc: Global, net: NetId) -> Result<List<NetId>, NoMemory>
     ensures { IfOk result (λ nets. nets ≡ net ∷ []) }
@@ -115,24 +104,21 @@ pub(crate) fn elements(
     Ok(gates)
 }
 
-/// The scopes in which the paths of primitives end.
-pub(crate) fn paths(
-    alloc: Global,
-    source: &[u8],
-    tokens: &Tokens,
-    own: &Names,
-    primitives: &[Primitive],
-) -> Result<List<u32>, NoMemory>
-    requires { length own.now ≤ 200000 }
-    ensures { IfOk result (λ paths. paths ≡ map (λ p. path_of (text_of source.now tokens.now) own.now p.name) primitives.now) }
+/// The scopes in which the paths of primitives end, where their names are all different: each that
+/// has a name has a scope of its own, in the order of the names.
+pub(crate) fn paths(alloc: Global, primitives: &[Primitive]) -> Result<List<u32>, NoMemory>
+    requires { length primitives.now ≤ 200000 }
+    ensures { IfOk result (λ paths. paths ≡ scopes_after 0 primitives.now) }
 {
     let mut paths = List::new(alloc);
+    let mut named = 0;
     'primitives: for primitive in primitives {
-        let scope = match primitive.name {
-            Some(name) => scope_of(own, text_at(source, tokens, name)),
-            None => 0,
-        };
-        paths.push(scope)?;
+        if primitive.name.is_some() {
+            named += 1;
+            paths.push(named)?;
+        } else {
+            paths.push(0)?;
+        }
     }
     Ok(paths)
 }

@@ -3,4 +3,5 @@ pub mod BlankSteps
 pub mod Cutting
 pub mod Reserved
 pub mod Within
+pub mod Rows
 pub mod OneAnswer

@@ -12,8 +12,8 @@ use std::alloc::Global;
 ///
 /// White space, comments, attributes and directives are passed over. Undeclared names become wires
 /// until `default_nettype none`, and again after `default_nettype wire` or `resetall`. The text of
-/// each token is the part of the source from its start up to its end. Takes one pass, and 32 bytes
-/// for each token.
+/// each token is the part of the source from its start up to its end. Takes one pass, and 16 bytes
+/// for each token, and 32 more for each sized constant.
 pub fn tokens(alloc: Global, source: &[u8]) -> Result<Tokens, LexFault>
     requires { length source.now < 2 ^ 32 }
     ensures reads { Answers source.now result }

@@ -1,13 +1,11 @@
 //! The tokens of a text: what each is, where it stands, and the list of them all.
 
+ghost use Rattle.verilog_lex.specs.Rows.{constant_at, constants_of};
 ghost use Rattle.std.specs.Prelude.{◌≡◌, ◌++◌, ◌∷◌, [], ◌<◌, ◌↔◌, IsTrue, length, slice_get, OnOk, OnErr};
 
 use emu_io::{List, NoMemory};
 use std::alloc::Global;
 use std::marker::Model;
-
-/// One more than the greatest half of a constant's value.
-const HALF: u128 = 0x1_0000_0000_0000_0000;
 
 /// What a token is.
 #[derive(Clone, Copy, Debug, PartialEq, Eq)]
@@ -44,12 +42,10 @@ enum Form {
     Mark(u8),
 }
 
-/// A token as it is stored, in 32 bytes: a constant's value is kept in two halves, and one number
-/// serves as the place of a reserved word, as a number and as a constant's size.
+/// A token as it is stored, in 16 bytes: one number serves as the place of a reserved word, as a
+/// number, and as the place of a constant among the constants.
 #[derive(Clone, Copy, Debug)]
 struct Row {
-    high: u64,
-    low: u64,
     number: u32,
     start: u32,
     end: u32,
@@ -57,23 +53,28 @@ struct Row {
     implicit: bool,
 }
 
-impl Row {
-    ghost use Rattle.verilog_lex.specs.Rows.{token_of};
+/// A sized constant as it is stored. Few tokens are constants, so these stand in a list of their own.
+#[derive(Clone, Copy, Debug)]
+struct Constant {
+    size: u32,
+    value: u128,
+}
 
-    /// The row of a token.
-    fn new(token: Token) -> Row
-        ensures { token_of result ≡ token }
+impl Row {
+    ghost use Rattle.verilog_lex.specs.Rows.{IsHeld, row_of, token_of};
+
+    /// The row of a token; where it is a constant, this is its place among the constants.
+    fn new(token: Token, place: u32) -> Row
+        ensures { result ≡ row_of place token }
     {
-        let (form, number, value) = match token.kind {
-            TokenKind::Name => (Form::Name, 0, 0),
-            TokenKind::Keyword(place) => (Form::Keyword, place, 0),
-            TokenKind::Number(number) => (Form::Number, number, 0),
-            TokenKind::Constant { size, value } => (Form::Constant, size, value),
-            TokenKind::Mark(byte) => (Form::Mark(byte), 0, 0),
+        let (form, number) = match token.kind {
+            TokenKind::Name => (Form::Name, 0),
+            TokenKind::Keyword(place) => (Form::Keyword, place),
+            TokenKind::Number(number) => (Form::Number, number),
+            TokenKind::Constant { .. } => (Form::Constant, place),
+            TokenKind::Mark(byte) => (Form::Mark(byte), 0),
         };
         Row {
-            high: (value / HALF) as u64,
-            low: (value % HALF) as u64,
             number,
             start: token.start,
             end: token.end,
@@ -82,18 +83,16 @@ impl Row {
         }
     }
 
-    /// The token of the row.
-    fn token(&self) -> Token
-        ensures { result ≡ token_of self.now }
+    /// The token of the row, with these constants.
+    fn token(&self, constants: &[Constant]) -> Token
+        requires { IsHeld (length constants.now) self.now }
+        ensures { result ≡ token_of constants.now self.now }
     {
         let kind = match self.form {
             Form::Name => TokenKind::Name,
             Form::Keyword => TokenKind::Keyword(self.number),
             Form::Number => TokenKind::Number(self.number),
-            Form::Constant => TokenKind::Constant {
-                size: self.number,
-                value: u128::from(self.high) * HALF + u128::from(self.low),
-            },
+            Form::Constant => constant_at(constants, self.number),
             Form::Mark(byte) => TokenKind::Mark(byte),
         };
         Token {
@@ -105,22 +104,46 @@ impl Row {
     }
 }
 
+/// The constant at a place.
+fn constant_at(constants: &[Constant], place: u32) -> TokenKind
+    requires { place < length constants.now }
+    ensures { result ≡ constant_at constants.now place }
+{
+    let constant = constants[place as usize];
+    TokenKind::Constant {
+        size: constant.size,
+        value: constant.value,
+    }
+}
+
+/// Puts a token behind the constants, where it is one.
+fn add_constant(constants: &mut List<Constant>, kind: TokenKind) -> Result<(), NoMemory>
+    ensures ok { OnOk result (constants.new ≡ constants.old ++ constants_of kind) }
+    ensures err { OnErr result (constants.new ≡ constants.old) }
+{
+    match kind {
+        TokenKind::Constant { size, value } => constants.push(Constant { size, value }),
+        _ => Ok(()),
+    }
+}
+
 /// The tokens of a text in order, fewer than 2^32; contracts see their list.
 #[derive(Debug, Drop)]
 pub struct Tokens {
     rows: List<Row>,
+    constants: List<Constant>,
 }
 
 impl Model for Tokens {
-    ghost use Rattle.std.specs.Prelude.{List, ◌<◌, ◌^◌, length, map};
+    ghost use Rattle.std.specs.Prelude.{List, map};
     ghost use Rattle.verilog_lex.specs.declared.token.Token.{Token};
-    ghost use Rattle.verilog_lex.specs.Rows.{token_of};
+    ghost use Rattle.verilog_lex.specs.Rows.{AreHeld, token_of};
 
     ghost Value = { List Token };
 
-    ghost view = { λ t. map token_of t.rows };
+    ghost view = { λ t. map (token_of t.constants) t.rows };
 
-    ghost invariant = { λ t. length t.rows < 2 ^ 32 };
+    ghost invariant = { λ t. AreHeld t.constants t.rows };
 }
 
 impl Tokens {
@@ -129,6 +152,7 @@ impl Tokens {
     {
         Tokens {
             rows: List::new(alloc),
+            constants: List::new(alloc),
         }
     }
 
@@ -151,7 +175,8 @@ impl Tokens {
         requires { k < length self.now }
         ensures { slice_get self.now k ≡ Some result }
     {
-        self.rows.get(u64::from(k)).token()
+        let row = self.rows.get(u64::from(k));
+        row.token(self.constants.as_slice())
     }
 
     /// Adds a token at the end.
@@ -160,7 +185,12 @@ impl Tokens {
         ensures ok { OnOk result (self.new ≡ self.old ++ token ∷ []) }
         ensures err { OnErr result (self.new ≡ self.old) }
     {
-        self.rows.push(Row::new(token))?;
+        let place = self.constants.len() as u32;
+        self.rows.push(Row::new(token, place))?;
+        if let Err(fault) = add_constant(&mut self.constants, token.kind) {
+            self.rows.pop();
+            return Err(fault);
+        }
         Ok(())
     }
 }

@@ -1,13 +1,13 @@
 //! Lists whose items have commas between them.
 
-ghost use Rattle.std.specs.Prelude.{◌≡◌, ◌<◌, ◌≤◌, ◌+◌, [], ◌∷◌, IsTrue, length};
+ghost use Rattle.std.specs.Prelude.{◌≡◌, ◌<◌, ◌≤◌, ◌+◌, [], ◌∷◌, IfOk, IsTrue, length};
 ghost use Rattle.verilog_tree.specs.Grammar.{Commas};
 ghost use Rattle.verilog_tree.specs.Predict.{Answers, Closed, Extends, more};
 ghost use Rattle.verilog_tree.specs.Terminal.{is_plain};
 
 use crate::reader::{Read, Reader, Stop};
 use crate::terminal::Terminal;
-use emu_io::List;
+use emu_io::{List, NoMemory};
 use std::alloc::Global;
 
 /// A part of the text that stands in lists.
@@ -28,6 +28,15 @@ pub(crate) trait Part: Sized + Drop {
         ensures { Answers reader.now (symbol ∷ []) (stands reader.now) from result };
 }
 
+/// An empty list with room for so many items. Most lists of a design stay as short as they begin,
+/// and a list that grows by itself takes room for four items at once.
+pub(crate) fn list_with_room<T: Drop>(alloc: Global, room: usize) -> Result<List<T>, NoMemory>
+    ensures { IfOk result (λ items. items ≡ []) }
+{
+    let items = Vec::with_capacity(alloc, room)?;
+    Ok(List::from_vec(items))
+}
+
 /// Reads a list and the terminal that ends it.
 pub(crate) fn read_list<P: Part>(
     alloc: Global,
@@ -40,7 +49,7 @@ pub(crate) fn read_list<P: Part>(
     ensures { Answers reader.now (P.symbol ∷ more P.symbol end ∷ []) (Closed reader.now (Commas reader.now (P.stands reader.now)) end) from result }
 {
     let first = P::read(alloc, reader, from)?;
-    let mut items = List::new(alloc);
+    let mut items = list_with_room(alloc, 1)?;
     items.push(first.node)?;
     read_rest(alloc, reader, items, first.next, end)
 }

@@ -5,7 +5,7 @@ ghost use Rattle.verilog_tree.specs.Grammar.{IsExpr, IsName, IsPrim, IsTerminals
 ghost use Rattle.verilog_tree.specs.Predict.{Answers, Closed, Reads, due, expr, label, more};
 
 use crate::expression::read_expr;
-use crate::part::{Part, read_rest};
+use crate::part::{Part, list_with_room, read_rest};
 use crate::reader::{Read, Reader, Stop};
 use crate::source::{Expr, GatePart};
 use crate::terminal::Terminal;
@@ -74,7 +74,7 @@ fn read_terminals(alloc: Global, reader: &Reader, from: u32) -> Result<Read<List
     let first = read_expr(alloc, reader, from)?;
     let comma = reader.expect(first.next, Terminal::Comma)?;
     let second = read_expr(alloc, reader, comma)?;
-    let mut terminals = List::new(alloc);
+    let mut terminals = list_with_room(alloc, 2)?;
     terminals.push(first.node)?;
     terminals.push(second.node)?;
     read_rest(alloc, reader, terminals, second.next, Terminal::CloseParen)

@@ -11,4 +11,4 @@ returns-in_err-first g c =
 pub returns : goal.returns
 returns g c =
     list_answers _ g.P.Part.symbol c.args.end (g.P.Part.stands c.args.reader.now) _ _ _ _ _ c.read_rest.result
-    c.new-items.ensures c.in_ok-push.ensures.ok c.in_ok-first.ensures c.read_rest.ensures
+    c.in_ok-items.ensures c.in_ok-push.ensures.ok c.in_ok-first.ensures c.read_rest.ensures

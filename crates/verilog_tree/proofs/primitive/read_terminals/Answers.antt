@@ -25,6 +25,6 @@ returns c =
     answers_from (Closed c.args.reader.now (Extends c.args.reader.now (IsExpr c.args.reader.now) c.push-2.new.self) CloseParen) (Closed c.args.reader.now (IsTerminals c.args.reader.now) CloseParen) c.read_rest.result
     (passes (passes (passes stays c.in_ok-first.ensures.goes) c.in_ok-comma.ensures.goes) c.in_ok-second.ensures.goes)
     (omega (arith, c.in_ok-first.ensures.forward, c.in_ok-comma.ensures.forward, c.in_ok-second.ensures.forward))
-    (λ n es rest. terminals_closed c.new-terminals.ensures c.in_ok-push.ensures.ok c.in_ok-push-2.ensures.ok
+    (λ n es rest. terminals_closed c.in_ok-terminals.ensures c.in_ok-push.ensures.ok c.in_ok-push-2.ensures.ok
     c.in_ok-first.ensures.stands c.in_ok-comma.ensures.is c.in_ok-second.ensures.stands rest)
     c.read_rest.ensures
