@@ -75,7 +75,7 @@ fn settle_ranked<O: Sink>(
 }
 
 /// Runs recorded events on the original, and prints its trace.
-fn settle_recording<O: Sink>(
+pub fn settle_recording<O: Sink>(
     alloc: Global,
     ranked: &Ranked<'_>,
     recording: Recording,

@@ -22,8 +22,18 @@ const SCHEDULE: &[u8] =
 const MAP: &[u8] =
     b"{\"chips\":[{\"memories\":[],\"nets\":[[\"net\",2],[\"net\",3]],\"registers\":[true]}],\"outputs\":[[0,1]],\"version\":1}\n";
 
+const OPENING: &[u8] = b"{}\n";
+
+const EVENTS: &[u8] = b"* a=1\n* a=0\n";
+
 /// The command that checks the inverter.
 const CHECK: &[u8] = b"check t d.v c.json g.json b.json n.v s.json m.json";
+
+/// The commands that run events on the inverter and on its results.
+const RUNS: [&[u8]; 2] = [
+    b"settle t d.v c.json g.json o.json e.txt",
+    b"replay t d.v c.json g.json b.json n.v s.json m.json o.json e.txt",
+];
 
 /// The words of a line, which has a space between each two.
 fn words(alloc: Global, line: &[u8]) -> Result<List<Word>, NoMemory> {
@@ -39,7 +49,8 @@ fn hold(alloc: Global, files: &mut MemFiles, name: &[u8], bytes: &[u8]) -> Resul
     files.hold(&Text::from_bytes(alloc, name)?, bytes)
 }
 
-/// The texts of the inverter and of accepted results for it; the fetches of these numbers fail.
+/// The texts of the inverter, of accepted results for it, and of two events; the fetches of these
+/// numbers fail.
 fn inverter(alloc: Global, failing: &[u64]) -> Result<MemFiles, NoMemory> {
     let mut files = MemFiles::new(alloc, failing)?;
     hold(alloc, &mut files, b"d.v", DESIGN)?;
@@ -49,6 +60,8 @@ fn inverter(alloc: Global, failing: &[u64]) -> Result<MemFiles, NoMemory> {
     hold(alloc, &mut files, b"n.v", NETLIST)?;
     hold(alloc, &mut files, b"s.json", SCHEDULE)?;
     hold(alloc, &mut files, b"m.json", MAP)?;
+    hold(alloc, &mut files, b"o.json", OPENING)?;
+    hold(alloc, &mut files, b"e.txt", EVENTS)?;
     Ok(files)
 }
 
@@ -238,5 +251,41 @@ fn a_put_that_fails_is_a_write_fault(rt: HostRuntime) -> Result<(), Fail> {
     let ended = end_of(rt.alloc(), CHECK, &mut inverter(rt.alloc(), &[])?, &[0])?;
     assert_eq!(rt; ended.out.written(), b"accepted\n".as_slice());
     assert_eq!(rt; ended.status, Status::WriteFault);
+    Ok(())
+}
+
+#[test]
+fn the_inverter_and_its_results_have_one_trace(rt: HostRuntime) -> Result<(), Fail> {
+    for line in RUNS {
+        let ended = end_of(rt.alloc(), line, &mut inverter(rt.alloc(), &[])?, &[])?;
+        assert_eq!(rt; ended.out.written(), b"1 y=0\n2 y=1\n".as_slice());
+        assert_eq!(rt; ended.status, Status::Ok);
+    }
+    Ok(())
+}
+
+#[test]
+fn a_trace_stops_in_the_line_that_could_not_be_put(rt: HostRuntime) -> Result<(), Fail> {
+    for line in RUNS {
+        let ended = end_of(rt.alloc(), line, &mut inverter(rt.alloc(), &[])?, &[1])?;
+        assert_eq!(rt; ended.out.written(), b"1 y=0\n2 y".as_slice());
+        assert_eq!(rt; ended.status, Status::WriteFault);
+    }
+    Ok(())
+}
+
+#[test]
+fn each_fetch_of_a_recording_that_fails_is_named(rt: HostRuntime) -> Result<(), Fail> {
+    for (line, failing, printed) in [
+        (RUNS[0], 3, b"read fault o.json\n".as_slice()),
+        (RUNS[0], 4, b"read fault e.txt\n"),
+        (RUNS[1], 7, b"read fault o.json\n"),
+        (RUNS[1], 8, b"read fault e.txt\n"),
+    ] {
+        let mut files = inverter(rt.alloc(), &[failing])?;
+        let ended = end_of(rt.alloc(), line, &mut files, &[])?;
+        assert_eq!(rt; ended.out.written(), printed);
+        assert_eq!(rt; ended.status, Status::ReadFault);
+    }
     Ok(())
 }

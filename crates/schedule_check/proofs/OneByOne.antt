@@ -1,6 +1,6 @@
 -- The rules in the order of their numbers, and what the verdicts come to.
-use Rattle.std.proofs.Common.{◌≡◌, ℕ, zero, suc, ◌+◌, ◌<◌, ◌≤◌, arith, Bool, true, false, refl, subst, sym, ap, ◌∙◌, inl, inr}
-use Rattle.std.specs.Prelude.{IsTrue, ◌↔◌, ◌⊎◌, Option, Some, None, is_some}
+use Rattle.std.proofs.Common.{◌≡◌, ℕ, zero, suc, ◌+◌, ◌<◌, ◌≤◌, arith, Bool, true, false, refl, subst, sym, ap, ◌∙◌}
+use Rattle.std.specs.Prelude.{IsTrue, ◌↔◌, ◌==◌, length, Option, Some, None, is_some}
 use Rattle.emu_machine.specs.Acceptance.{Case, Rule, A1, A2, A3, A4, A5, A6, A7, A8, A9, A10, A11, A12, rule_number, IsAccepted}
 use Rattle.graph_rank.specs.Ranks.{Ranking}
 use Rattle.schedule_check.specs.Cycles.{Orders}
@@ -87,10 +87,15 @@ module _ (c : Case) (s : IsPlainCase c) where
         fails = fails;
       }
 
-  -- A1 and A10 hold of every plain case, A10 where the actions are there
-  pub always_holds : (rule : Told) → (rule ≡ declared.A1) ⊎ (rule ≡ declared.A10) → MeetsBefore c (named rule) → IsTrue true ↔ Meets c (named rule)
-  always_holds rule (inl e) before = (λ t. subst (λ (r : Told). Meets c (named r)) (sym e) (meets_a1 c s), λ m. refl)
-  always_holds rule (inr e) before =
+  -- there is one module, as there is one chip, so A1 holds of every plain case
+  pub one_module : (rule : Told) (b : Bool) → b ≡ (length c.results.net == 1) → rule ≡ declared.A1 → IsTrue b ↔ Meets c (named rule)
+  one_module rule b is e =
+      let one : (length c.results.net == 1) ≡ true = ap (λ chips. length chips == 1) s.results.one in
+      (λ t. subst (λ (r : Told). Meets c (named r)) (sym e) (meets_a1 c s), λ m. is ∙ one)
+
+  -- A10 holds where the actions are there, since there is no wire
+  pub nothing_sent : (rule : Told) → rule ≡ declared.A10 → MeetsBefore c (named rule) → IsTrue true ↔ Meets c (named rule)
+  nothing_sent rule e before =
       let earlier : MeetsBefore c A10 = subst (λ (r : Told). MeetsBefore c (named r)) e before in
       (λ t. subst (λ (r : Told). Meets c (named r)) (sym e) (meets_a10 c s (earlier A4 (omega arith)) (earlier A5 (omega arith))), λ m. refl)
 

@@ -93,8 +93,8 @@ fn rule_at(k: u8) -> Rule
     }
 }
 
-/// Whether a rule holds where all rules before it do. There is one chip and one room, and no wire to
-/// send over, so that A1 and A10 hold.
+/// Whether a rule holds where all rules before it do. The board has one chip, and no wire to send
+/// over, so that A10 holds.
 fn holds(
     alloc: Global,
     case: &PlainCase,
@@ -107,7 +107,7 @@ fn holds(
 {
     case.stands();
     match rule {
-        Rule::A1 | Rule::A10 => Ok(true),
+        Rule::A1 => Ok(case.modules() == 1),
         Rule::A2 => Ok(order.is_some()),
         Rule::A3 => Ok(has_room(case)),
         Rule::A4 => Ok(has_frame(case)),
@@ -116,6 +116,7 @@ fn holds(
         Rule::A7 => Ok(parts_fit(case)),
         Rule::A8 => Ok(actions_keep_subjects(case)),
         Rule::A9 => bits_are_mapped(alloc, case),
+        Rule::A10 => Ok(true),
         Rule::A11 => ends_are_done(alloc, case),
         Rule::A12 => match order {
             Some(order) => outputs_show_before(alloc, case, order),

@@ -160,6 +160,13 @@ impl<'a> PlainCase<'a> {
         }
     }
 
+    /// How many modules the netlist has.
+    pub(crate) fn modules(&self) -> u64
+        ensures { result ≡ length self.now.results.net }
+    {
+        self.results.net.len()
+    }
+
     /// For each register of the chip, whether it is kept.
     pub(crate) fn kept(&self) -> &[bool]
         ensures { result.now ≡ (chip_map self.now.results 0).kept }

@@ -1,13 +1,16 @@
 -- Each rule has its test.
-use Rattle.std.proofs.Common.{sym, subst}
-use Rattle.std.specs.Prelude.{IsTrue, ◌↔◌, IfOk}
+use Rattle.std.proofs.Common.{sym, subst, ap}
+use Rattle.std.specs.Prelude.{IsTrue, ◌↔◌, ◌==◌, IfOk}
 use Rattle.schedule_check.specs.declared.verdict.Rule.{Rule}
 use Rattle.schedule_check.specs.Verdict.{named, Meets}
-use Rattle.schedule_check.proofs.OneByOne.{always_holds, ordered, unordered}
+use Rattle.schedule_check.proofs.OneByOne.{one_module, nothing_sent, ordered, unordered}
 use Rattle.schedule_check.proofs.judging.holds.Goals as goal
 
 pub returns-in-A1 : goal.returns-in-A1
-returns-in-A1 c = always_holds c.args.case.now c.stands.ensures c.args.rule c.in-A1.is c.requires.before
+returns-in-A1 c = one_module c.args.case.now c.stands.ensures c.args.rule _ (ap (λ n. n == 1) c.modules.ensures) c.in-A1.is
+
+pub returns-in-A10 : goal.returns-in-A10
+returns-in-A10 c = nothing_sent c.args.case.now c.stands.ensures c.args.rule c.in-A10.is c.requires.before
 
 pub returns-in-A2 : goal.returns-in-A2
 returns-in-A2 c =
