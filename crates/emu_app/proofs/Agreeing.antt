@@ -1,5 +1,5 @@
 -- `settle` and `replay` print one trace where the twelve rules hold.
-use Rattle.std.proofs.Common.{ℕ, ◌≡◌, List, ◌∷◌, sym, ◌∙◌, ap, subst}
+use Rattle.std.proofs.Common.{ℕ, ◌≡◌, List, ◌∷◌, sym, ◌∙◌, subst, arith}
 use Rattle.design_core.specs.declared.parts.Parts.{Parts}
 use Rattle.design_core.specs.Event.{IsHistory}
 use Rattle.design_core.specs.Valuation.{Valuation}
@@ -8,15 +8,24 @@ use Rattle.emu_machine.specs.Headline.{event_values}
 use Rattle.event_replay.specs.Runs.{settled_trace}
 use Rattle.trace_law.specs.Traces.{SettledTraceIsOne}
 use Rattle.emu_app.specs.declared.recording.Recording.{Recording}
+use Rattle.emu_app.specs.declared.command.Command.TheVariants.{Settle}
+use Rattle.emu_app.specs.declared.what.What.{What}
+use Rattle.emu_app.specs.declared.what.What.TheVariants.{Design, Groups, Opening, Events}
+use Rattle.emu_app.specs.Command.{Reads}
 use Rattle.emu_app.specs.Fetching.{Texts}
-use Rattle.emu_app.specs.Reading.{StandFor, StandForRun}
+use Rattle.emu_app.specs.Reading.{StandFor, StandForSettle}
 use Rattle.emu_app.specs.Runs.{DesignSays, IsHistoryTrace, RecordingSays, opening_of}
 use Rattle.emu_app.specs.Answers.{Replays, Settles, SettleAndReplayAgree}
+use Rattle.emu_app.proofs.Completing.{first_too, recorded_too}
 
--- a case and a recording that texts stand for are a run too
-stands_too : (top : List ℕ) (texts : Texts) (c : Case) (r : Recording) → StandFor top texts c → RecordingSays texts c.design r → StandForRun top texts c.design r
-stands_too top texts c r s recorded =
-    record { first = subst (λ (x : Case). DesignSays top texts x.design) (sym s.is) s.board_says.first; recorded = recorded }
+-- a case and a recording that texts stand for are what `settle` runs, of all texts that are the same for it
+stands_too : (top : List ℕ) (texts others : Texts) (c : Case) (r : Recording) → ((what : What) → Reads Settle what → texts what ≡ others what) → StandFor top texts c → RecordingSays texts c.design r → StandForSettle top others c.design r
+stands_too top texts others c r same s recorded =
+    let first : DesignSays top texts c.design = subst (λ (x : Case). DesignSays top texts x.design) (sym s.is) s.board_says.first in
+    record {
+      first = first_too Settle top texts others c.design (same Design (omega arith)) (same Groups (omega arith)) first;
+      recorded = recorded_too texts others c.design r (same Opening (omega arith)) (same Events (omega arith)) recorded;
+    }
 
 -- the trace of the one history is that of every history of the same recording
 one_trace : SettledTraceIsOne → (p q : Parts) (r other : Recording) (first : Valuation) (rest : List Valuation) (trace : List ℕ)
@@ -29,8 +38,8 @@ one_trace law p q r other first rest trace same-p same-r history is =
     moved = subst (λ x. IsHistory q (opening_of x) (event_values x.events) (first ∷ rest)) same-r (subst (λ x. IsHistory x (opening_of r) (event_values r.events) (first ∷ rest)) same-p history)
 
 pub traces_agree : SettledTraceIsOne → SettleAndReplayAgree
-traces_agree law top texts settled replayed run accepted settles =
+traces_agree law top texts others settled replayed run alike accepted settles =
     let same : (run.judged.design ≡ settles.design) × (run.recording ≡ settles.recording) =
-    settles.stand.one run.judged.design run.recording (stands_too top texts run.judged run.recording run.stand.stand.stand run.stand.recorded) in
+    settles.stand.one run.judged.design run.recording (stands_too top texts others run.judged run.recording alike run.stand.stand.stand run.stand.recorded) in
     run.is.agrees accepted
     ∙ one_trace law run.judged.design settles.design run.recording settles.recording run.is.first run.is.rest settled same.0 same.1 run.is.is_history settles.is

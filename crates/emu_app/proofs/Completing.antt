@@ -81,7 +81,7 @@ same_texts held n a b what reads are-a are-b = one_text held (name_of n what) (a
 abbrev AreSame : Command → Texts → Texts → Type 0
 AreSame command a b = (what : What) → Reads command what → a what ≡ b what
 
-first_too : (command : Command) (top : List ℕ) (a b : Texts) (p : Parts) → a Design ≡ b Design → a Groups ≡ b Groups → DesignSays top a p → DesignSays top b p
+pub first_too : (command : Command) (top : List ℕ) (a b : Texts) (p : Parts) → a Design ≡ b Design → a Groups ≡ b Groups → DesignSays top a p → DesignSays top b p
 first_too command top a b p design groups says =
     record {
       design = subst (λ t. SaysDesign top t p) design says.design;
@@ -116,7 +116,7 @@ module _ (top : List ℕ) (a b : Texts) (same : (what : What) → order what < 7
       }
 
 -- and for the same recording
-recorded_too : (a b : Texts) (p : Parts) (r : Recording) → a Opening ≡ b Opening → a Events ≡ b Events → RecordingSays a p r → RecordingSays b p r
+pub recorded_too : (a b : Texts) (p : Parts) (r : Recording) → a Opening ≡ b Opening → a Events ≡ b Events → RecordingSays a p r → RecordingSays b p r
 recorded_too a b p r opening events says =
     record {
       opening = subst (λ t. SaysOpening p.inputs t r.inputs) opening says.opening;
@@ -203,13 +203,13 @@ module _ (law : RefusedTextsStandForNothing) (told : Option Held) (before now : 
   found_ok (answer.Accepted schedule) means = refl
   found_ok answer.Rejected means =
       let fine : AreFine means.names fair.held = fine_for means.names means.shape in
-      absurd (not_rejected fair.held means.names fine (subst (λ t. IfSome t (λ held. HeldMeans held means.names answer.Rejected)) fair.tells means.means))
+      absurd (not_rejected fair.held means.names fine (subst (λ t. IfSome t (λ held. HeldMeans held means.names answer.Rejected)) fair.tells means.means.1))
   found_ok (answer.TooLarge what) means =
       let fine : AreFine means.names fair.held = fine_for means.names means.shape in
       absurd (not_large fair.held before now means.names what fine (subst (λ t. FirstTooLarge t before now means.names what) fair.tells means.means))
   found_ok (answer.Refused why) means =
       let fine : AreFine means.names fair.held = fine_for means.names means.shape in
-      absurd (not_refused law fair.held means.names why fine (subst (λ t. IfSome t (λ held. HeldMeans held means.names (answer.Refused why))) fair.tells means.means))
+      absurd (not_refused law fair.held means.names why fine (subst (λ t. IfSome t (λ held. HeldMeans held means.names (answer.Refused why))) fair.tells means.means.1))
   found_ok (answer.ReadFault name) means =
       let fine : AreFine means.names fair.held = fine_for means.names means.shape in
       let fails : _ = means.means.fails in

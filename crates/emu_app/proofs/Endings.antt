@@ -70,13 +70,13 @@ traced_work held n old new Replay is writes = writes
 
 traced_held : (told : Option Held) (n : CommandWords) (old new : Option (List ℕ)) (trace : List ℕ) → TraceOf told n trace → AppendsWhereTold old trace new → IfSome told (OkHolds n.command n old new)
 traced_held None n old new trace means text = tt
-traced_held (Some held) n old new trace means text = traced_work held n old new n.command refl (record { trace = trace; means = means; text = text })
+traced_held (Some held) n old new trace means text = traced_work held n old new n.command refl (record { trace = trace; means = means.1; text = text })
 
 -- by the answer that was found
 ok_found : (told : Option Held) (before now : ℕ) (blamed : Option (List ℕ)) (words : List (List ℕ)) (old new : Option (List ℕ)) (found : Answer) → CommandMeans told before now blamed words found → status_of found ≡ status.Ok → IsOk told words old new
 ok_found told before now blamed words old new answer.Usage means is = absurd (let e : status.Usage ≡ status.Ok = is in cc)
 ok_found told before now blamed words old new (answer.Accepted schedule) means is =
-    record { names = means.names; shape = means.shape; held = accepted_held told means.names schedule old new means.means }
+    record { names = means.names; shape = means.shape; held = accepted_held told means.names schedule old new means.means.1 }
 ok_found told before now blamed words old new answer.Rejected means is = absurd (let e : status.Rejected ≡ status.Ok = is in cc)
 ok_found told before now blamed words old new (answer.TooLarge what) means is = absurd (let e : status.Refused ≡ status.Ok = is in cc)
 ok_found told before now blamed words old new (answer.Refused what) means is = absurd (let e : status.Refused ≡ status.Ok = is in cc)
@@ -91,7 +91,7 @@ rejected_found : (told : Option Held) (before now : ℕ) (blamed : Option (List 
 rejected_found told before now blamed words answer.Usage means is = absurd (let e : status.Usage ≡ status.Rejected = is in cc)
 rejected_found told before now blamed words (answer.Accepted schedule) means is = absurd (let e : status.Ok ≡ status.Rejected = is in cc)
 rejected_found told before now blamed words answer.Rejected means is =
-    record { names = means.names; shape = means.shape; held = rejected_held told means.names means.means }
+    record { names = means.names; shape = means.shape; judges = means.means.0; held = rejected_held told means.names means.means.1 }
 rejected_found told before now blamed words (answer.TooLarge what) means is = absurd (let e : status.Refused ≡ status.Rejected = is in cc)
 rejected_found told before now blamed words (answer.Refused what) means is = absurd (let e : status.Refused ≡ status.Rejected = is in cc)
 rejected_found told before now blamed words (answer.ReadFault name) means is = absurd (let e : status.ReadFault ≡ status.Rejected = is in cc)

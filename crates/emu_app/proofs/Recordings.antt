@@ -17,7 +17,7 @@ use Rattle.emu_app.specs.declared.recording.Recording.{Recording}
 use Rattle.emu_app.specs.declared.what.What.TheVariants.{Design, Opening, Events}
 use Rattle.emu_app.specs.Fetching.{Texts}
 use Rattle.emu_app.specs.Forms.{SaysDesign}
-use Rattle.emu_app.specs.Reading.{IsRead, NoneSaid, StandForRun, TextsTellRecordingsApart, TextsTellRunsApart}
+use Rattle.emu_app.specs.Reading.{IsRead, NoneSaid, StandForSettle, TextsTellRecordingsApart, TextsTellRunsApart}
 use Rattle.emu_app.specs.Runs.{HasInputBits, RecordingSays}
 use Rattle.emu_app.proofs.OneCases.{one_design}
 

@@ -34,7 +34,7 @@ use Rattle.emu_app.specs.What.{order}
 use Rattle.emu_app.specs.Fetching.{Texts}
 use Rattle.emu_app.specs.Faults.{HasFault, HasNoTree}
 use Rattle.emu_app.specs.Forms.{AreTokens, IsTreeOf, SaysDesign}
-use Rattle.emu_app.specs.Reading.{AreRead, FirstUnread, IsRead, NotYetMeans, Refuses, RefusedTextsStandForNothing, StandFor, StandForRun}
+use Rattle.emu_app.specs.Reading.{AreRead, FirstUnread, IsRead, NotYetMeans, Refuses, RefusedTextsStandForNothing, StandFor, StandForSettle}
 use Rattle.emu_app.proofs.OneCases.{case_design, one_design}
 use Rattle.emu_app.proofs.Readings.{one_answer, tokens_once}
 
@@ -103,7 +103,7 @@ read_case top texts c s Opening early later = absurd (omega (arith, early))
 read_case top texts c s Events early later = absurd (omega (arith, early))
 
 -- what a design with a recording gives
-read_run : (top : List ℕ) (texts : Texts) (p : Parts) (r : Recording) → StandForRun top texts p r → (what : What) → settle_place what < 5 → order Design < order what → IsRead top texts what
+read_run : (top : List ℕ) (texts : Texts) (p : Parts) (r : Recording) → StandForSettle top texts p r → (what : What) → settle_place what < 5 → order Design < order what → IsRead top texts what
 read_run top texts p r s Design reads later = absurd (omega (arith, later))
 read_run top texts p r s Cells reads later = tt
 read_run top texts p r s Groups reads later = s.first.groups

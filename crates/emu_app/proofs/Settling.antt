@@ -26,7 +26,7 @@ use Rattle.emu_app.specs.declared.answer.Answer.{Answer}
 use Rattle.emu_app.specs.declared.recording.Recording.{Recording}
 use Rattle.emu_app.specs.Answers.{Comes, Settles, TraceStops, WritesTrace}
 use Rattle.emu_app.specs.Fetching.{Texts}
-use Rattle.emu_app.specs.Reading.{StandForRun, TextsTellRunsApart}
+use Rattle.emu_app.specs.Reading.{StandForSettle, TextsTellRunsApart}
 use Rattle.emu_app.specs.Runs.{DesignSays, HasInputBits, IsHistoryTrace, NoAnswer, RecordingSays, opening_of}
 
 same_net : (a b : NetId) → is_net a.place b ≡ true → a ≡ b
@@ -107,7 +107,7 @@ module _ (p : Parts) (r : Recording) (v : Valuation) (begun : HasOpened p r v) w
 -- texts that say a design and a recording of it have the trace of its history
 pub settles : TextsTellRunsApart → (top : List ℕ) (texts : Texts) (p : Parts) (r : Recording) → DesignSays top texts p → RecordingSays texts p r → (trace : List ℕ) → IsHistoryTrace p r trace → Settles top texts trace
 settles law top texts p r first recorded trace is =
-    let stand : StandForRun top texts p r = record { first = first; recorded = recorded } in
+    let stand : StandForSettle top texts p r = record { first = first; recorded = recorded } in
     record {
       design = p;
       recording = r;

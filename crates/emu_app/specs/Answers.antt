@@ -20,10 +20,10 @@ use Rattle.emu_app.specs.declared.recording.Recording.{Recording}
 use Rattle.emu_app.specs.declared.what.What.{What}
 use Rattle.emu_app.specs.declared.status.Status.{Status}
 use Rattle.emu_app.specs.declared.status.Status.TheVariants as status
-use Rattle.emu_app.specs.Command.{CommandWords, IsCommand, IsNoCommand, name_of}
+use Rattle.emu_app.specs.Command.{CommandWords, IsCommand, IsNoCommand, Reads, name_of}
 use Rattle.emu_app.specs.Fetching.{Texts, AreHeld, ReadFails, FirstTooLarge}
 use Rattle.emu_app.specs.Printing.{text_of, status_of}
-use Rattle.emu_app.specs.Reading.{StandForOne, StandForOneRun, StandForOneReplay, Refuses}
+use Rattle.emu_app.specs.Reading.{StandForOne, StandForOneSettle, StandForOneReplay, Refuses}
 use Rattle.emu_app.specs.Runs.{IsHistoryTrace, IsMachineTrace, CanReplay}
 
 -- The texts stand for one case, and the rules A1 to A12 hold for it: then the machine agrees with the
@@ -76,7 +76,7 @@ WorkMeans Replay top texts found = ReplayMeans top texts found
 pub record Settles (top : List ℕ) (texts : Texts) (trace : List ℕ) : Type 0 where
   pub design : Parts
   pub recording : Recording
-  pub stand : StandForOneRun top texts design recording
+  pub stand : StandForOneSettle top texts design recording
   pub is : IsHistoryTrace design recording trace
 
 -- the texts stand for one case and recording, the rules A1 to A9 hold, and this is the machine's trace
@@ -92,6 +92,18 @@ abbrev pub TraceMeans : Command → List ℕ → Texts → List ℕ → Type 0
 TraceMeans Check top texts trace = ⊥
 TraceMeans Settle top texts trace = Settles top texts trace
 TraceMeans Replay top texts trace = Replays top texts trace
+
+-- the answers of a command to texts that are fetched: `settle` judges nothing, and only `check` accepts
+abbrev pub CanAnswer : Command → Answer → Type 0
+CanAnswer Check found = Unit {0}
+CanAnswer other (answer.Accepted schedule) = ⊥
+CanAnswer Settle answer.Rejected = ⊥
+CanAnswer other found = Unit {0}
+
+-- the commands that print a trace
+abbrev pub HasTrace : Command → Type 0
+HasTrace Check = ⊥
+HasTrace other = Unit {0}
 
 -- the texts that are held under these names, which are all there and within their limits, come to an answer
 pub record HeldMeans (held : Held) (n : CommandWords) (found : Answer) : Type 0 where
@@ -116,7 +128,7 @@ abbrev pub FoundMeans : Option Held → ℕ → ℕ → Option (List ℕ) → Co
 FoundMeans told before now blamed n answer.Usage = ⊥
 FoundMeans told before now blamed n (answer.TooLarge what) = FirstTooLarge told before now n what
 FoundMeans told before now blamed n (answer.ReadFault name) = NameFails told before now blamed n name
-FoundMeans told before now blamed n found = IfSome told (λ held. HeldMeans held n found)
+FoundMeans told before now blamed n found = CanAnswer n.command found × IfSome told (λ held. HeldMeans held n found)
 
 -- the words are those of a command, and it came to this answer
 pub record IsFound (told : Option Held) (before now : ℕ) (blamed : Option (List ℕ)) (words : List (List ℕ)) (found : Answer) : Type 0 where
@@ -129,9 +141,9 @@ abbrev pub CommandMeans : Option Held → ℕ → ℕ → Option (List ℕ) → 
 CommandMeans told before now blamed words answer.Usage = IsNoCommand words
 CommandMeans told before now blamed words found = IsFound told before now blamed words found
 
--- where the files tell what they hold, this is the trace of the command
+-- the command prints a trace, and this is it where the files tell what they hold
 abbrev pub TraceOf : Option Held → CommandWords → List ℕ → Type 0
-TraceOf told n trace = IfSome told (λ held. HeldTrace held n trace)
+TraceOf told n trace = HasTrace n.command × IfSome told (λ held. HeldTrace held n trace)
 
 -- the words are those of a command, and this is its trace
 pub record IsTraced (told : Option Held) (words : List (List ℕ)) (trace : List ℕ) : Type 0 where
@@ -188,8 +200,9 @@ Ends Means Runs old new before now status.NoMemory = (new ≡ old) ⊎ TraceStop
 Ends Means Runs old new before now status.NoFit = ⊥
 Ends Means Runs old new before now ended = Prints Means old new ended
 
--- where the twelve rules hold, `settle` and `replay` print one trace
+-- where the twelve rules hold, `settle` and `replay` print one trace of the same texts
 abbrev pub SettleAndReplayAgree : Type 0
 SettleAndReplayAgree =
-    (top : List ℕ) (texts : Texts) (settled replayed : List ℕ) (run : Replays top texts replayed)
-    → IsAccepted run.judged → Settles top texts settled → replayed ≡ settled
+    (top : List ℕ) (texts others : Texts) (settled replayed : List ℕ) (run : Replays top texts replayed)
+    → ((what : What) → Reads Settle what → texts what ≡ others what)
+    → IsAccepted run.judged → Settles top others settled → replayed ≡ settled

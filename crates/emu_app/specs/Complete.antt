@@ -12,7 +12,7 @@ use Rattle.emu_app.specs.Command.{CommandWords, IsCommand}
 use Rattle.emu_app.specs.Fetching.{Texts, AreHeld}
 use Rattle.emu_app.specs.declared.recording.Recording.{Recording}
 use Rattle.design_core.specs.declared.parts.Parts.{Parts}
-use Rattle.emu_app.specs.Reading.{StandFor, StandForRun}
+use Rattle.emu_app.specs.Reading.{StandFor, StandForSettle}
 use Rattle.emu_app.specs.Runs.{CanReplay, RecordingSays}
 
 -- no failure shows in a count: it did not rise, and it does not stand at its last value
@@ -27,10 +27,10 @@ pub record IsFineCase (top : List ℕ) (texts : Texts) : Type 0 where
   pub accepted : IsAccepted judged
 
 -- the texts stand for a design and a recording of it
-pub record IsFineRun (top : List ℕ) (texts : Texts) : Type 0 where
+pub record IsFineSettle (top : List ℕ) (texts : Texts) : Type 0 where
   pub design : Parts
   pub recording : Recording
-  pub stand : StandForRun top texts design recording
+  pub stand : StandForSettle top texts design recording
 
 -- the texts stand for a case that meets the rules A1 to A9, and for a recording of its design
 pub record IsFineReplay (top : List ℕ) (texts : Texts) : Type 0 where
@@ -43,7 +43,7 @@ pub record IsFineReplay (top : List ℕ) (texts : Texts) : Type 0 where
 -- texts with which a command can do its work
 abbrev pub IsFine : Command → List ℕ → Texts → Type 0
 IsFine Check top texts = IsFineCase top texts
-IsFine Settle top texts = IsFineRun top texts
+IsFine Settle top texts = IsFineSettle top texts
 IsFine Replay top texts = IsFineReplay top texts
 
 -- the files hold texts within their limits with which the command can do its work

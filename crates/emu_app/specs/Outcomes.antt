@@ -11,7 +11,8 @@ use Rattle.emu_app.specs.Fetching.{Texts, AreHeld}
 use Rattle.emu_app.specs.declared.recording.Recording.{Recording}
 use Rattle.emu_app.specs.Reading.{StandForOne, StandForOneReplay}
 use Rattle.emu_app.specs.Runs.{CanReplay}
-use Rattle.emu_app.specs.Answers.{HeldTrace, WritesTrace}
+use Rattle.emu_app.specs.declared.answer.Answer.TheVariants as answer
+use Rattle.emu_app.specs.Answers.{CanAnswer, HeldTrace, WritesTrace}
 
 -- the texts that are held under the names stand for one case alone, the rules A1 to A12 hold for it, and so
 -- the machine agrees with the design after every event, for every opening and every list of events
@@ -58,8 +59,9 @@ pub record IsOk (told : Option Held) (words : List (List ℕ)) (old new : Option
   pub shape : IsCommand words names
   pub held : IfSome told (OkHolds names.command names old new)
 
--- the words are those of a command, and where the files tell what they hold, it rejects results
+-- the words are those of a command that judges, and where the files tell what they hold, it rejects results
 pub record IsRejected (told : Option Held) (words : List (List ℕ)) : Type 0 where
   pub names : CommandWords
   pub shape : IsCommand words names
+  pub judges : CanAnswer names.command answer.Rejected
   pub held : IfSome told (RejectedHolds names.command names)

@@ -99,14 +99,14 @@ pub record StandForOne (top : List ℕ) (texts : Texts) (c : Case) : Type 0 wher
   pub one : (other : Case) → StandFor top texts other → other ≡ c
 
 -- the texts stand for a design and a recording of it
-pub record StandForRun (top : List ℕ) (texts : Texts) (p : Parts) (r : Recording) : Type 0 where
+pub record StandForSettle (top : List ℕ) (texts : Texts) (p : Parts) (r : Recording) : Type 0 where
   pub first : DesignSays top texts p
   pub recorded : RecordingSays texts p r
 
 -- the texts stand for this design and this recording alone
-pub record StandForOneRun (top : List ℕ) (texts : Texts) (p : Parts) (r : Recording) : Type 0 where
-  pub stand : StandForRun top texts p r
-  pub one : (q : Parts) (other : Recording) → StandForRun top texts q other → (q ≡ p) × (other ≡ r)
+pub record StandForOneSettle (top : List ℕ) (texts : Texts) (p : Parts) (r : Recording) : Type 0 where
+  pub stand : StandForSettle top texts p r
+  pub one : (q : Parts) (other : Recording) → StandForSettle top texts q other → (q ≡ p) × (other ≡ r)
 
 -- the texts stand for this case, and for this recording of its design, alone
 pub record StandForOneReplay (top : List ℕ) (texts : Texts) (c : Case) (r : Recording) : Type 0 where
@@ -182,7 +182,7 @@ TextsTellRecordingsApart =
 abbrev pub TextsTellRunsApart : Type 0
 TextsTellRunsApart =
     (top : List ℕ) (texts : Texts) (p q : Parts) (r other : Recording)
-    → StandForRun top texts p r → StandForRun top texts q other → (q ≡ p) × (other ≡ r)
+    → StandForSettle top texts p r → StandForSettle top texts q other → (q ≡ p) × (other ≡ r)
 
 -- texts stand for one case at most
 abbrev pub TextsTellCasesApart : Type 0
@@ -192,7 +192,7 @@ TextsTellCasesApart =
 -- what texts that the command reads without a fault stand for: a case, a design with a recording, or both
 abbrev pub AreRead : Command → List ℕ → Texts → Type 0
 AreRead Check top texts = (c : Case) × StandFor top texts c
-AreRead Settle top texts = (p : Parts) × (r : Recording) × StandForRun top texts p r
+AreRead Settle top texts = (p : Parts) × (r : Recording) × StandForSettle top texts p r
 AreRead Replay top texts = (c : Case) × (r : Recording) × StandFor top texts c × RecordingSays texts c.design r
 
 -- texts that a command refuses stand for nothing

@@ -3,7 +3,7 @@
 //! The table is the file that the program's argument names. Each line is printed after `> `, then what
 //! the command prints, then its status. The stored output holds the answers that two other programs
 //! gave, which were written apart from each other for the same rules; so this shows for each command
-//! all that it prints, to the last byte, and how it ends. A trusted edge, which has no contract.
+//! all that it prints, to the last byte, and how it ends. It is a test, and has no contract.
 #![tactic(auto)]
 
 use emu_app::run;
