@@ -3,7 +3,7 @@
 
 First designs that are read and then refused for their last gate, an `and`: fetching, tokens, grammar.
 Then whole commands that end with `accepted`: all seven texts are read and judged. Prints a line for each
-size and program: seconds (the best of three runs), and the most memory. Run it after
+size and program: seconds (the best of fifteen runs, the programs in turn), and the most memory. Run it after
 `bash examples/inverter/run.sh`, which builds the program; `rustc` must be on the path.
 """
 import os
@@ -79,8 +79,10 @@ def compare(folder, label, written, wanted, plain):
     for name, text in zip(NAMES, written):
         with open(os.path.join(folder, name), "w") as file:
             file.write(text)
-    for who, program in (("emu", EMU), ("plain", plain)):
-        best = min(measured(program, folder, wanted) for _ in range(3))
+    programs = {"emu": EMU, "plain": plain}
+    turns = [{who: measured(program, folder, wanted) for who, program in programs.items()} for _ in range(15)]
+    for who in programs:
+        best = min(turn[who] for turn in turns)
         print(f"{label} {who} {best[0]:.3f} s {best[1] / 1e6:.1f} MB")
 
 
