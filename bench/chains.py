@@ -4,7 +4,8 @@
 First designs that `check` reads and then refuses for their last gate, an `and`: fetching, tokens, grammar.
 Then whole commands `check` that end with `accepted`: all seven texts are read and judged. Then `settle` and
 `replay` of events that change the one input each time. Prints for each size a line for each program, with
-seconds (the best of three runs) and the most memory, and one with the ratios of the two. Run it after
+seconds and the most memory (the best of several runs, the two programs in turn, since a machine that others
+share is slower at one time than at another), and one with the ratios of the two. Run it after
 `bash examples/inverter/run.sh`, which builds the program; `rustc` must be on the path. Words after the
 script's name choose the kinds of row: read, check, settle, replay.
 """
@@ -100,12 +101,16 @@ def compare(folder, command, label, written, wanted, plain):
     for name, text in zip(NAMES + RUN, written):
         with open(os.path.join(folder, name), "w") as file:
             file.write(text)
-    best = {}
-    for who, program in (("emu", EMU), ("plain", plain)):
-        best[who] = min(measured(program, folder, command, wanted) for _ in range(3))
+    programs = {"emu": EMU, "plain": plain}
+    turns = [
+        {who: measured(program, folder, command, wanted) for who, program in programs.items()}
+        for _ in range(15 if command == "check" else 5)
+    ]
+    best = {who: tuple(map(min, zip(*(turn[who] for turn in turns)))) for who in programs}
+    for who in programs:
         print(f"{label} {who} {best[who][0]:.3f} s {best[who][1] / 1e6:.1f} MB")
     time_ratio, memory_ratio = (ours / theirs for ours, theirs in zip(best["emu"], best["plain"]))
-    print(f"{label} against plain: time {time_ratio:.1f} memory {memory_ratio:.1f}", flush=True)
+    print(f"{label} against plain: time {time_ratio:.2f} memory {memory_ratio:.2f}", flush=True)
 
 
 def read_rows(folder, plain):
