@@ -189,9 +189,13 @@ fn faults_of_the_design_are_told_with_their_bytes(rt: HostRuntime) -> Result<(),
 #[test]
 fn a_circle_of_gates_is_told_by_its_names(rt: HostRuntime) -> Result<(), Fail> {
     let design = b"module t(y); output y; wire x; not(x,y); not(y,x); endmodule\n";
-    let ended = end_with(rt.alloc(), b"d.v", design)?;
-    assert_eq!(rt; ended.out.written(), b"refused rank Cycle y x\n".as_slice());
-    assert_eq!(rt; ended.status, Status::Refused);
+    for line in [CHECK, RUNS[0], RUNS[1]] {
+        let mut files = inverter(rt.alloc(), &[])?;
+        hold(rt.alloc(), &mut files, b"d.v", design)?;
+        let ended = end_of(rt.alloc(), line, &mut files, &[])?;
+        assert_eq!(rt; ended.out.written(), b"refused rank Cycle y x\n".as_slice());
+        assert_eq!(rt; ended.status, Status::Refused);
+    }
     Ok(())
 }
 
@@ -260,6 +264,23 @@ fn the_inverter_and_its_results_have_one_trace(rt: HostRuntime) -> Result<(), Fa
         let ended = end_of(rt.alloc(), line, &mut inverter(rt.alloc(), &[])?, &[])?;
         assert_eq!(rt; ended.out.written(), b"1 y=0\n2 y=1\n".as_slice());
         assert_eq!(rt; ended.status, Status::Ok);
+    }
+    Ok(())
+}
+
+#[test]
+fn results_that_take_no_input_have_a_trace_of_their_own(rt: HostRuntime) -> Result<(), Fail> {
+    let schedule = b"{\"frames\":[{\"group\":\"*\",\"slots\":[[]]}],\"version\":1}\n";
+    for (line, printed, status) in [
+        (CHECK, b"rejected\n".as_slice(), Status::Rejected),
+        (RUNS[0], b"1 y=0\n2 y=1\n", Status::Ok),
+        (RUNS[1], b"1 y=1\n2 y=1\n", Status::Ok),
+    ] {
+        let mut files = inverter(rt.alloc(), &[])?;
+        hold(rt.alloc(), &mut files, b"s.json", schedule)?;
+        let ended = end_of(rt.alloc(), line, &mut files, &[])?;
+        assert_eq!(rt; ended.out.written(), printed);
+        assert_eq!(rt; ended.status, status);
     }
     Ok(())
 }
