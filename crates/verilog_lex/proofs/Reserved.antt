@@ -1,11 +1,11 @@
 -- The reserved words, where each letter's begin, and the place of a word among them.
-use Rattle.std.proofs.Common.{◌≡◌, ℕ, zero, suc, ◌+◌, ◌-◌, ◌<◌, ◌≤◌, Bool, true, false, not, ◌&&◌, nat_lt, nat_le, if◌then◌else◌, List, [], ◌∷◌, length, get_or, Some, None, position, bytes_eq, refl, sym, ap, subst, arith}
+use Rattle.std.proofs.Common.{◌≡◌, ℕ, zero, suc, ◌+◌, ◌-◌, ◌<◌, ◌≤◌, Bool, true, false, not, ◌&&◌, nat_lt, nat_le, if◌then◌else◌, List, [], ◌∷◌, length, get_or, Some, None, position, bytes_eq, refl, sym, ◌∙◌, ap, subst, arith}
 use Rattle.std.specs.Char.{is_ascii_lowercase}
 use Rattle.std.specs.List.{prefix_len}
 use Rattle.std.proofs.lemmas.Bool.Decides.{nat_tests}
 use Rattle.std.proofs.lemmas.List.Sums.{prefix_len_is}
 use Rattle.std.proofs.lemmas.Slice.Eq.{bytes_eq-Decides}
-use Rattle.verilog_lex.specs.Bytes.{first}
+use Rattle.verilog_lex.specs.Bytes.{first, second}
 use Rattle.verilog_lex.specs.Words.{Splits, reserved_words}
 
 pub reserved_words-length : length reserved_words ≡ 124
@@ -102,8 +102,32 @@ starts-split letter low high =
 not_letter : (letter : ℕ) → is_ascii_lowercase letter ≡ false → 97 ≤ letter → letter ≤ 122 → ⊥
 not_letter letter off low high = grind (arith, nat_tests)
 
+-- each of some words goes on with a letter
+go_on : List (List ℕ) → Bool
+go_on [] = true
+go_on (w ∷ words) = is_ascii_lowercase (second w) && go_on words
+
+go_on-at : (words : List (List ℕ)) (k : ℕ) → go_on words ≡ true → k < length words → is_ascii_lowercase (second (get_or words k [])) ≡ true
+unfolding go_on
+go_on-at [] k e inside = absurd (omega arith)
+go_on-at (w ∷ words) zero e inside = (both (is_ascii_lowercase (second w)) (go_on words) e).0
+go_on-at (w ∷ words) (suc k) e inside = go_on-at words k (both (is_ascii_lowercase (second w)) (go_on words) e).1 (omega arith)
+
+reserved_go_on : go_on reserved_words ≡ true
+unfolding reserved_words go_on
+reserved_go_on = refl
+
 -- a word that is none of those with its first letter is none
 module _ (word : List ℕ) where
+  pub no_second : (letter : ℕ) → letter ≡ second word → is_ascii_lowercase letter ≡ false → None ≡ position (bytes_eq word) reserved_words
+  no_second letter is off =
+      sym (position-none (bytes_eq word) reserved_words (λ k inside. false_from (bytes_eq word (get_or reserved_words k [])) (λ e.
+      let same : word ≡ get_or reserved_words k [] = (bytes_eq-Decides word (get_or reserved_words k [])).0 e in
+      let letters : letter ≡ second (get_or reserved_words k []) = is ∙ ap second same in
+      let on : is_ascii_lowercase letter ≡ true = ap is_ascii_lowercase letters ∙ go_on-at reserved_words k reserved_go_on inside in
+      let never : false ≡ true = sym off ∙ on in
+      cc)))
+
   pub no_letter : (letter : ℕ) → letter ≡ first word → is_ascii_lowercase letter ≡ false → None ≡ position (bytes_eq word) reserved_words
   no_letter letter is off =
       let low = starts-split 97 (omega arith) (omega arith) in

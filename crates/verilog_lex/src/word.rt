@@ -175,6 +175,11 @@ fn reserved_place(word: &[u8]) -> Option<u32>
     if !letter.is_ascii_lowercase() {
         return None;
     }
+    // The names of nets mostly go on with a digit, and no reserved word does.
+    let second = byte_at(word, 1);
+    if !second.is_ascii_lowercase() {
+        return None;
+    }
     for place in bucket_start(letter)..bucket_start(letter + 1) {
         if word == reserved_word(place) {
             return Some(u32::from(place));

@@ -2,11 +2,14 @@
 use Rattle.std.proofs.Common.{◌≡◌, [], bytes_eq, get_or, sym, ◌∙◌, ap, arith, below_more}
 use Rattle.std.proofs.lemmas.Option.{get_or_from_slice_get}
 use Rattle.verilog_lex.specs.Words.{reserved_words}
-use Rattle.verilog_lex.proofs.Reserved.{no_letter, no_bucket, in_bucket, reserved_words-length}
+use Rattle.verilog_lex.proofs.Reserved.{no_letter, no_second, no_bucket, in_bucket, reserved_words-length}
 use Rattle.verilog_lex.proofs.word.reserved_place.Goals as goal
 
 pub returns-then-not-is_ascii_lowercase : goal.returns-then-not-is_ascii_lowercase
 returns-then-not-is_ascii_lowercase c = no_letter c.args.word.now c.byte_at-letter.result c.byte_at-letter.ensures (sym c.is_ascii_lowercase.ensures.value ∙ c.if-not-is_ascii_lowercase.true)
+
+pub returns-then-not-is_ascii_lowercase-2 : goal.returns-then-not-is_ascii_lowercase-2
+returns-then-not-is_ascii_lowercase-2 c = no_second c.args.word.now c.byte_at-second.result c.byte_at-second.ensures (sym c.is_ascii_lowercase-2.ensures.value ∙ c.if-not-is_ascii_lowercase-2.true)
 
 pub reserved_word-requires : goal.reserved_word-requires
 reserved_word-requires c =
