@@ -24,11 +24,6 @@ pub record AreSteps (chip : Chip) (order : List ℕ) (steps : List Step) : Type 
   pub count : length steps ≡ length order
   pub each : (i : ℕ) (step : Step) → slice_get steps i ≡ Some step → IsStep chip (slice_index order i) step
 
--- the same for the first places of the order, with none for the others
-pub record FirstSteps (chip : Chip) (order : List ℕ) (count : ℕ) (steps : List Step) : Type 0 where
-  pub count_is : length steps ≡ count
-  pub each : (i : ℕ) (step : Step) → slice_get steps i ≡ Some step → IsStep chip (slice_index order i) step
-
 -- the steps of all gates of a chip, each after the steps of the gates that drive its inputs
 pub record HasSteps (chip : Chip) (steps : List Step) : Type 0 where
   pub order : List ℕ
