@@ -1,18 +1,18 @@
 -- The tables of all chips.
-use Rattle.std.proofs.Common.{◌≡◌, ◌<◌, ◌≤◌, ◌+◌, ℕ, Bool, List, [], ◌∷◌, ◌++◌, take, set, get_or, length, refl, sym, ap, subst, ◌∙◌, inl, inr, arith}
+use Rattle.std.proofs.Common.{◌≡◌, ◌<◌, ◌≤◌, ◌+◌, ℕ, Bool, List, [], ◌∷◌, ◌++◌, take, set, get_or, length, sym, ap, subst, ◌∙◌, inl, inr, arith}
 use Rattle.std.specs.Prelude.{◌⊎◌, Some, slice_get, unwrap_or}
 use Rattle.std.proofs.lemmas.Bool.{cases_lt}
-use Rattle.std.proofs.lemmas.List.{length-set, take_more, take_more_set}
-use Rattle.std.proofs.lemmas.Option.{none-some, slice_get_past, same_Some, slice_get_within, slice_get-get_or, slice_get_read, get_or_from_slice_get, unwrap_or-slice_get}
-use Rattle.graph_rank.specs.Ranks.{Ranking}
+use Rattle.std.proofs.lemmas.List.{length-set, get_or_default, take_more, take_more_set}
+use Rattle.std.proofs.lemmas.Option.{none-some, slice_get_past, slice_get_within, slice_get-get_or, get_or_from_slice_get, unwrap_or-slice_get}
 use Rattle.emu_machine.specs.declared.netlist.Chip.{Chip}
 use Rattle.emu_machine.specs.declared.netlist.EmuRegister.{EmuRegister}
 use Rattle.emu_machine.specs.declared.results.Results.{Results}
 use Rattle.emu_machine.specs.Netlist.{no_chip, chip_at}
 use Rattle.emu_machine.specs.State.{net_value}
 use Rattle.cycle_sim.specs.Standing.{CanRun, RegisterStands}
-use Rattle.cycle_sim.specs.Orders.{IsGateOrder}
-use Rattle.cycle_sim.specs.Tables.{cell, state_of, HaveSizes, AllShown, FirstShown, AllOrdered}
+use Rattle.cycle_sim.specs.declared.steps.Step.{Step}
+use Rattle.cycle_sim.specs.Steps.{HasSteps}
+use Rattle.cycle_sim.specs.Tables.{cell, state_of, HaveSizes, AllShown, AllStepped, FirstShown}
 
 pub record IsCopied (from to : List Bool) (count : ℕ) : Type 0 where
   pub size : length to ≡ length from
@@ -67,13 +67,13 @@ module _ (r : Results) (chip k : ℕ) (register : EmuRegister) (at : slice_get (
         (sym (ap length is ∙ sizes.sizes chip (chip_at r.net chip) (chip_here r.net chip chip_low)))
         register_stands
 
-pub order_here : (r : Results) (orders : List Ranking) → AllOrdered r orders → (c : ℕ) (chip : Chip) → slice_get r.net c ≡ Some chip
-    → (order : Ranking) → order ≡ get_or orders c order → IsGateOrder chip order.order
-order_here r orders all c chip at order is =
-    let has = all.each c chip at in
-    let within : c < length orders = slice_get_within orders c has.0 has.1 in
-    let same : has.0 ≡ order = same_Some has.0 order (sym has.1 ∙ slice_get_read orders (length orders) c order refl within is) in
-    subst (λ (o : Ranking). IsGateOrder chip o.order) same has.2
+-- the steps of a chip's gates, as a slice of them
+pub steps_here : (r : Results) (steps : List (List Step)) → AllStepped r steps → (c : ℕ) (chip : Chip) → slice_get r.net c ≡ Some chip
+    → (some : List Step) → some ≡ get_or steps c some → (slice : List Step) → slice ≡ some → HasSteps chip slice
+steps_here r steps all c chip at some is slice same =
+    let within : c < length r.net = slice_get_within r.net c chip at in
+    let here : c < length steps = omega (arith, within, all.count) in
+    subst (HasSteps chip) (sym (same ∙ is ∙ get_or_default steps c some [] here)) (all.each c chip at)
 
 pub all_shown : (r : Results) (held : List (List Bool)) (count : ℕ) (shown : List (List Bool)) → length r.net ≤ count → FirstShown r held count shown → AllShown r held shown
 all_shown r held count shown whole first =

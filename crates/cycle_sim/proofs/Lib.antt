@@ -4,7 +4,7 @@ pub mod Drivers
 pub mod Passing
 pub mod Chips
 pub mod Taking
-pub mod Steps
+pub mod SlotSteps
 pub mod Loads
 pub mod Examples
 pub mod JudgedResults

@@ -1,20 +1,24 @@
 -- A pass over the gates in order gives each net what comes to it, since what a gate reads does not change any
 -- more when it has its turn.
 use Rattle.std.proofs.Common.{◌≡◌, ◌<◌, ◌≤◌, ◌+◌, ℕ, zero, suc, Bool, false, List, [], ◌∷◌, map, set, get_or, length, refl, sym, ap, subst, ◌∙◌, inl, inr, arith}
-use Rattle.std.specs.Prelude.{◌⊎◌, Option, Some, None, slice_get, slice_index, Contains, All}
+use Rattle.std.specs.Prelude.{◌⊎◌, Option, Some, None, slice_get, slice_index, slice_set, Contains, All}
 use Rattle.std.specs.Option.{option_map_or}
 use Rattle.std.proofs.lemmas.Bool.{cases_eq}
 use Rattle.std.proofs.lemmas.List.{length-set, get_or-set_same, get_or-set_other, get_or_default}
 use Rattle.std.proofs.lemmas.List.Elements.{All-head, All-tail}
-use Rattle.std.proofs.lemmas.Option.{same_Some, slice_get_within}
+use Rattle.std.proofs.lemmas.Option.{same_Some, slice_get_within, slice_get-get_or}
 use Rattle.id_arena.specs.declared.keys.ChipNetId.{ChipNetId}
+use Rattle.design_core.specs.declared.operation.Op.TheVariants.{Buf}
 use Rattle.design_core.specs.Operation.{op_value}
 use Rattle.emu_machine.specs.declared.netlist.Chip.{Chip}
 use Rattle.emu_machine.specs.declared.netlist.EmuGate.{EmuGate}
 use Rattle.emu_machine.specs.Netlist.{is_chip_net, gate_of}
 use Rattle.history_law.proofs.Lists.{first, find_at}
 use Rattle.history_law.proofs.Naming.{same_number, number_same}
-use Rattle.cycle_sim.specs.Standing.{ChipStands, IsThere}
+use Rattle.cycle_sim.specs.declared.steps.Step.{Step}
+use Rattle.cycle_sim.specs.declared.steps.Step.TheVariants.{Follow, Gate}
+use Rattle.cycle_sim.specs.Standing.{ChipStands, GateStands, IsThere}
+use Rattle.cycle_sim.specs.Steps.{AreSteps, IsStep, follower}
 use Rattle.cycle_sim.specs.Values.{value_in, values_in, gate_gives, comes_to, AreShown}
 use Rattle.cycle_sim.specs.Orders.{IsGateOrder, IsDone, IsPassed}
 use Rattle.cycle_sim.proofs.Drivers.{drives_once}
@@ -134,3 +138,45 @@ module _ (chip : Chip) (stands : ChipStands chip) (order : List ℕ) (is : IsGat
             (λ k gate at drives. let p = placed k (slice_get_within chip.gates k gate at) in (p.0, omega (arith, p.1), p.2))
             enough;
       }
+
+-- ## Steps
+
+-- the gate of a step
+module _ (chip : Chip) (stands : ChipStands chip) (step : Step) (at : (k : ℕ) × (gate : EmuGate) × (slice_get chip.gates k ≡ Some gate) × IsStep chip k step) where
+  pub follows_there : (output input : ChipNetId) (inverts : Bool) → step ≡ Follow output input inverts → IsThere chip.nets output × IsThere chip.nets input
+  follows_there output input inverts is =
+      let here : slice_get chip.gates at.0 ≡ Some (record { op = follower inverts; output = output; inputs = input ∷ [] }) = subst (IsStep chip at.0) is at.3 in
+      let gate : GateStands chip.nets (record { op = follower inverts; output = output; inputs = input ∷ [] }) = stands.gates at.0 _ here in
+      (gate.output, All-head (IsThere chip.nets) input [] gate.inputs)
+
+  pub gate_there : (j : ℕ) → step ≡ Gate j → j < length chip.gates
+  gate_there j is =
+      let same : j ≡ at.0 = subst (IsStep chip at.0) is at.3 in
+      let low : at.0 < length chip.gates = slice_get_within chip.gates at.0 at.1 at.2 in
+      omega arith
+
+no_gate_at : EmuGate
+no_gate_at = record { op = Buf; output = record { place = 0 }; inputs = [] }
+
+-- the step at a place of an order
+module _ (chip : Chip) (order : List ℕ) (is : IsGateOrder chip order) (steps : List Step) (are : AreSteps chip order steps) (i : ℕ) (low : i < length steps) (step : Step) (at : slice_get steps i ≡ Some step) where
+  abbrev gate_here : EmuGate
+  gate_here = get_or chip.gates (slice_index order i) no_gate_at
+
+  low_here : i < length order
+  low_here = omega (arith, low, are.count)
+
+  gate_at : slice_get chip.gates (slice_index order i) ≡ Some gate_here
+  gate_at = slice_get-get_or chip.gates (slice_index order i) no_gate_at (is.in_range i low_here)
+
+  pub step_there : (k : ℕ) × (gate : EmuGate) × (slice_get chip.gates k ≡ Some gate) × IsStep chip k step
+  step_there = (slice_index order i, gate_here, gate_at, are.each i step at)
+
+  -- one more gate has its turn by its step
+  pub one_stepped : (stands : ChipStands chip) (held shown next : List Bool)
+      → ((k : ℕ) (gate : EmuGate) → slice_get chip.gates k ≡ Some gate → IsStep chip k step
+      → next ≡ slice_set shown gate.output.place (gate_gives gate (values_in shown gate.inputs)))
+      → IsPassed chip order held i shown → IsPassed chip order held (i + 1) next
+  one_stepped stands held shown next does h =
+      subst (IsPassed chip order held (i + 1)) (sym (does (slice_index order i) gate_here gate_at (are.each i step at)))
+      (one_passed chip stands order is held i low_here gate_here gate_at shown h (gate_gives gate_here (values_in shown gate_here.inputs)) refl)

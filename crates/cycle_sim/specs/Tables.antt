@@ -4,14 +4,14 @@ use Rattle.std.specs.Prelude.{◌≡◌, ◌<◌, ℕ, Bool, false, Some, List, 
 use Rattle.std.specs.Option.{option_map_or}
 use Rattle.design_core.specs.declared.values.PortBit.{PortBit}
 use Rattle.design_core.specs.Event.{given}
-use Rattle.graph_rank.specs.Ranks.{Ranking}
 use Rattle.emu_machine.specs.declared.netlist.Chip.{Chip}
 use Rattle.emu_machine.specs.declared.schedule.Action.{Action}
 use Rattle.emu_machine.specs.declared.results.Results.{Results}
 use Rattle.emu_machine.specs.State.{State, frame_slots}
 use Rattle.cycle_sim.specs.Standing.{CanRun}
 use Rattle.cycle_sim.specs.Values.{AreShown}
-use Rattle.cycle_sim.specs.Orders.{IsGateOrder}
+use Rattle.cycle_sim.specs.declared.steps.Step.{Step}
+use Rattle.cycle_sim.specs.Steps.{HasSteps}
 
 -- by chip and net what a register holds there, and by net of the design the outside value of an input
 pub record Tables : Type 0 where
@@ -54,17 +54,15 @@ pub record FirstShown (r : Results) (held : List (List Bool)) (count : ℕ) (sho
   pub sizes : HaveSizes r shown
   pub each : (c : ℕ) (chip : Chip) → c < count → slice_get r.net c ≡ Some chip → AreShown chip (get_or held c []) (get_or shown c [])
 
--- an order of the gates of each chip
-pub record AllOrdered (r : Results) (orders : List Ranking) : Type 0 where
-  pub count : length orders ≡ length r.net
-  pub each : (c : ℕ) (chip : Chip) → slice_get r.net c ≡ Some chip
-      → (order : Ranking) × (slice_get orders c ≡ Some order) × IsGateOrder chip order.order
+-- the steps of the gates of each chip
+pub record AllStepped (r : Results) (steps : List (List Step)) : Type 0 where
+  pub count : length steps ≡ length r.net
+  pub each : (c : ℕ) (chip : Chip) → slice_get r.net c ≡ Some chip → HasSteps chip (get_or steps c [])
 
 -- the same for the first chips, with none for the others
-pub record FirstOrdered (r : Results) (count : ℕ) (orders : List Ranking) : Type 0 where
-  pub count_is : length orders ≡ count
-  pub each : (c : ℕ) (chip : Chip) → c < count → slice_get r.net c ≡ Some chip
-      → (order : Ranking) × (slice_get orders c ≡ Some order) × IsGateOrder chip order.order
+pub record FirstStepped (r : Results) (count : ℕ) (steps : List (List Step)) : Type 0 where
+  pub count_is : length steps ≡ count
+  pub each : (c : ℕ) (chip : Chip) → c < count → slice_get r.net c ≡ Some chip → HasSteps chip (get_or steps c [])
 
 -- the results can be run, and the tables of what nets show have all their nets
 pub record IsReady (r : Results) (nets : ℕ) (shown : List (List Bool)) : Type 0 where
@@ -72,10 +70,10 @@ pub record IsReady (r : Results) (nets : ℕ) (shown : List (List Bool)) : Type 
   pub sizes : HaveSizes r shown
 
 -- the results can be run, the state has all their nets, and the nets show what comes to them
-pub record IsMachine (r : Results) (t : Tables) (shown : List (List Bool)) (orders : List Ranking) : Type 0 where
+pub record IsMachine (r : Results) (t : Tables) (shown : List (List Bool)) (steps : List (List Step)) : Type 0 where
   pub runs : CanRun r (length t.outside)
   pub held : HaveSizes r t.held
-  pub ordered : AllOrdered r orders
+  pub stepped : AllStepped r steps
   pub settled : AllShown r t.held shown
 
 -- the actions of a slot of a frame

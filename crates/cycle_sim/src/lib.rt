@@ -2,7 +2,8 @@
 //!
 //! A machine is opened on results and on what it is loaded with. `slot` is one slot step, `present`
 //! and `frame` do an event, and `net` and `register` are the values of the state. None of these takes
-//! memory. A slot goes once over the gates of each chip, in an order in which inputs come first.
+//! memory. A slot goes once over the gates of each chip, by a plan that is made when the machine is
+//! opened: a list of steps, one for each gate, in an order in which inputs come first.
 #![tactic(auto)]
 
 mod gates;
@@ -11,6 +12,7 @@ mod loaded;
 mod machine;
 mod order;
 mod pass;
+mod steps;
 mod taken;
 
 pub use laws::{judged_can_load, judged_can_run};

@@ -7,16 +7,15 @@ ghost use Rattle.emu_machine.specs.declared.netlist.EmuRegister.{EmuRegister};
 ghost use Rattle.emu_machine.specs.Netlist.{chip_at};
 ghost use Rattle.emu_machine.specs.State.{after_frame, frame_slots, net_value, present, slot_step};
 ghost use Rattle.cycle_sim.specs.Standing.{ActionStands, CanRun, ChipStands, IsRegister};
-ghost use Rattle.cycle_sim.specs.Tables.{AllOrdered, cell, HasPut, HaveSizes, IsMachine, slot_actions, state, state_of};
+ghost use Rattle.cycle_sim.specs.Tables.{AllStepped, cell, HasPut, HaveSizes, IsMachine, slot_actions, state, state_of};
 
 use crate::loaded::Loaded;
-use crate::order::order_of;
 use crate::pass::settle_all;
+use crate::steps::{Step, steps_of};
 use crate::taken::{register_of, take_all};
 use design_core::{PortBit, PortValues};
 use emu_io::{List, NoMemory};
 use emu_machine::{Action, Results, Slot};
-use graph_rank::Order;
 use id_arena::{ChipId, ChipNetId, GroupId, Key, RegId};
 use std::alloc::Global;
 use std::marker::Model;
@@ -31,8 +30,8 @@ pub struct Machine<'a> {
     held: Vec<List<bool>>,
     /// By chip and net what the net shows.
     shown: Vec<List<bool>>,
-    /// An order of the gates of each chip.
-    orders: Vec<Order>,
+    /// For each chip the steps of its gates, in an order in which inputs come first.
+    steps: Vec<List<Step>>,
     /// By net of the design the outside value of an input.
     outside: Vec<bool>,
 }
@@ -47,7 +46,7 @@ impl<'a> Model for Machine<'a> {
       tables = record { held = m.held.items; outside = m.outside.items };
     } };
 
-    ghost invariant = { λ m. IsMachine m.results.now (record { held = m.held.items; outside = m.outside.items }) m.shown.items m.orders.items };
+    ghost invariant = { λ m. IsMachine m.results.now (record { held = m.held.items; outside = m.outside.items }) m.shown.items m.steps.items };
 }
 
 impl<'a> Machine<'a> {
@@ -61,15 +60,15 @@ impl<'a> Machine<'a> {
         requires loaded { HaveSizes results.now loaded.held }
         ensures { IfOk result (λ m. m ≡ record { results = results.now; tables = loaded }) }
     {
-        let orders = orders_of(alloc, results)?;
+        let steps = all_steps(alloc, results)?;
         let mut shown = zeros(alloc, results)?;
         let (held, outside) = loaded.into_tables();
-        settle_all(results, orders.as_slice(), held.as_slice(), &mut shown);
+        settle_all(results, steps.as_slice(), held.as_slice(), &mut shown);
         Ok(Machine {
             results,
             held,
             shown,
-            orders,
+            steps,
             outside,
         })
     }
@@ -151,7 +150,7 @@ impl<'a> Machine<'a> {
     {
         do_actions(
             self.results,
-            self.orders.as_slice(),
+            self.steps.as_slice(),
             self.outside.as_slice(),
             actions,
             &mut self.held,
@@ -163,20 +162,20 @@ impl<'a> Machine<'a> {
 /// Gives the targets of some actions their values, and then the nets of all chips theirs.
 fn do_actions(
     results: &Results,
-    orders: &[Order],
+    steps: &[List<Step>],
     outside: &[bool],
     actions: &[Action],
     held: &mut [List<bool>],
     shown: &mut [List<bool>],
 )
     requires actions { All (ActionStands results.now (length outside.now)) actions.now }
-    requires machine { IsMachine results.now (record { held = held.old; outside = outside.now }) shown.old orders.now }
-    ensures machine { IsMachine results.now (record { held = held.new; outside = outside.now }) shown.new orders.now }
+    requires machine { IsMachine results.now (record { held = held.old; outside = outside.now }) shown.old steps.now }
+    ensures machine { IsMachine results.now (record { held = held.new; outside = outside.now }) shown.new steps.now }
     ensures state { (wires : List Wire) → state_of (record { held = held.new; outside = outside.now })
         ≡ slot_step results.now.net wires actions.now (state_of (record { held = held.old; outside = outside.now })) }
 {
     take_all(results, shown, outside, actions, held);
-    settle_all(results, orders, held, shown);
+    settle_all(results, steps, held, shown);
 }
 
 /// The value that a table has for a net of a chip.
@@ -210,16 +209,16 @@ fn actions_of(results: &Results, group: GroupId, t: usize) -> &[Action]
     slots_of(results, group)[t].actions.as_slice()
 }
 
-/// An order of the gates of each chip.
-fn orders_of(alloc: Global, results: &Results) -> Result<Vec<Order>, NoMemory>
+/// The steps of the gates of each chip.
+fn all_steps(alloc: Global, results: &Results) -> Result<Vec<List<Step>>, NoMemory>
     requires { (c : ℕ) (chip : Chip) → slice_get results.now.net c ≡ Some chip → ChipStands chip }
-    ensures { IfOk result (λ orders. AllOrdered results.now orders.items) }
+    ensures { IfOk result (λ steps. AllStepped results.now steps.items) }
 {
-    let mut orders = Vec::new(alloc);
+    let mut steps = Vec::new(alloc);
     'chips: for chip in results.net.as_slice() {
-        orders.push(order_of(alloc, chip)?)?;
+        steps.push(steps_of(alloc, chip)?)?;
     }
-    Ok(orders)
+    Ok(steps)
 }
 
 /// A value for each net of each chip, as yet 0.

@@ -1,4 +1,4 @@
-use Rattle.cycle_sim.proofs.Steps.{stepped}
+use Rattle.cycle_sim.proofs.SlotSteps.{stepped}
 use Rattle.cycle_sim.proofs.machine.do_actions.Goals as goal
 
 pub returns-clause-state : goal.returns-clause-state

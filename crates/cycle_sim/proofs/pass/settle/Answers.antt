@@ -1,30 +1,27 @@
-use Rattle.std.proofs.Common.{◌≡◌, ◌<◌, ◌+◌, ℕ, Bool, length, slice_set, sym, ap, subst, ◌∙◌, arith}
-use Rattle.std.specs.Prelude.{slice_get, List}
-use Rattle.design_core.specs.Operation.{op_value}
-use Rattle.id_arena.specs.declared.keys.ChipNetId.{ChipNetId}
-use Rattle.cycle_sim.specs.Values.{values_in}
+use Rattle.std.proofs.Common.{◌≡◌, length, sym, subst, arith}
+use Rattle.std.proofs.lemmas.Option.{slice_get-get_or}
 use Rattle.cycle_sim.specs.Orders.{IsPassed}
-use Rattle.cycle_sim.proofs.Passing.{none_passed, one_passed, all_passed}
+use Rattle.cycle_sim.proofs.Passing.{none_passed, all_passed, step_there, one_stepped}
 use Rattle.cycle_sim.proofs.pass.settle.Goals as goal
 
 pub gates-init : goal.gates-init
-gates-init c =
-    subst (IsPassed c.args.chip.now c.args.order.now.order c.args.held.now 0) (sym c.copy_values.ensures)
-    (none_passed c.args.chip.now c.requires.stands c.args.order.now.order c.requires.order c.args.held.now c.requires.held)
+gates-init c = λ order is are.
+    subst (IsPassed c.args.chip.now order c.args.held.now 0) (sym c.copy_values.ensures)
+    (none_passed c.args.chip.now c.requires.stands order is c.args.held.now c.requires.held)
+
+pub do_step-requires-clause-step : goal.do_step-requires-clause-step
+do_step-requires-clause-step c =
+    step_there c.args.chip.now c.requires.steps.order c.requires.steps.ordered c.args.steps.now c.requires.steps.stepped c.gates.place c.gates-test.true _
+    (slice_get-get_or c.args.steps.now c.gates.place _ c.gates-test.true)
 
 pub gates-preserved : goal.gates-preserved
-gates-preserved c =
-    let low : c.gates.place < length c.args.order.now.order = omega (arith, c.gates-test.true, c.len-place-end.ensures) in
-    let at = ap (slice_get c.args.chip.now.gates) (sym c.at.ensures) ∙ c.get-gate.ensures in
-    let gives = c.gate_value-value.ensures
-    ∙ ap (λ (ns : List ChipNetId). op_value c.get-gate.result.now.op (values_in c.as_slice-in-gates.result.now ns)) c.as_slice.ensures
-    ∙ ap (λ (t : List Bool). op_value c.get-gate.result.now.op (values_in t c.get-gate.result.now.inputs)) c.as_slice-in-gates.ensures in
-    subst (IsPassed c.args.chip.now c.args.order.now.order c.args.held.now (c.gates.place + 1))
-    (ap (λ (n : ℕ). slice_set c.gates.shown n c.gate_value-value.result) (sym c.place.ensures) ∙ sym c.set.ensures)
-    (one_passed c.args.chip.now c.requires.stands c.args.order.now.order c.requires.order c.args.held.now c.gates.place low
-    c.get-gate.result.now at c.gates.shown c.gates.invariant c.gate_value-value.result gives)
+gates-preserved c = λ order is are.
+    one_stepped c.args.chip.now order is c.args.steps.now are c.gates.place c.gates-test.true _
+    (slice_get-get_or c.args.steps.now c.gates.place _ c.gates-test.true)
+    c.requires.stands c.args.held.now c.gates.shown c.do_step.new.shown c.do_step.ensures (c.gates.invariant order is are)
 
 pub returns : goal.returns
 returns c =
-    let whole : c.gates.place ≡ length c.args.order.now.order = omega (arith, c.gates-test.false, c.gates.auto.place-end, c.len-place-end.ensures) in
-    all_passed c.args.chip.now c.requires.stands c.args.order.now.order c.requires.order c.args.held.now c.gates.place whole c.gates.shown c.gates.invariant
+    let whole : c.gates.place ≡ length c.requires.steps.order = omega (arith, c.gates-test.false, c.gates.auto.place-end, c.requires.steps.stepped.count) in
+    all_passed c.args.chip.now c.requires.stands c.requires.steps.order c.requires.steps.ordered c.args.held.now c.gates.place whole c.gates.shown
+    (c.gates.invariant c.requires.steps.order c.requires.steps.ordered c.requires.steps.stepped)

@@ -1,10 +1,11 @@
 use Rattle.std.proofs.Common.{◌≤◌, length, arith}
-use Rattle.cycle_sim.proofs.Chips.{order_here, all_shown}
+use Rattle.cycle_sim.proofs.Chips.{steps_here, all_shown}
 use Rattle.cycle_sim.proofs.pass.settle_all.Goals as goal
 
-pub settle-requires-clause-order : goal.settle-requires-clause-order
-settle-requires-clause-order c =
-    order_here c.args.results.now c.args.orders.now c.requires.orders c.chips.c c.get.result.now c.get.ensures c.index-orders-c.result c.index-orders-c.is
+pub settle-requires-clause-steps : goal.settle-requires-clause-steps
+settle-requires-clause-steps c =
+    steps_here c.args.results.now c.args.steps.now c.requires.steps c.chips.c c.get.result.now c.get.ensures c.index-steps-c.result c.index-steps-c.is
+    c.as_slice.result.now c.as_slice.ensures
 
 pub returns : goal.returns
 returns c =

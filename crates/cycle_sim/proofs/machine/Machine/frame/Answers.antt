@@ -2,7 +2,7 @@ use Rattle.std.proofs.Common.{◌<◌, List, Bool, length, sym, ap, subst, ◌�
 use Rattle.emu_machine.specs.State.{frame_slots}
 use Rattle.cycle_sim.specs.Standing.{CanRun}
 use Rattle.cycle_sim.specs.Tables.{state}
-use Rattle.cycle_sim.proofs.Steps.{frame_actions, same_step, one_slot}
+use Rattle.cycle_sim.proofs.SlotSteps.{frame_actions, same_step, one_slot}
 use Rattle.cycle_sim.proofs.machine.Machine.frame.Goals as goal
 
 pub step-requires : goal.step-requires

@@ -3,7 +3,7 @@ use Rattle.emu_machine.specs.declared.results.Results.{Results}
 use Rattle.emu_machine.specs.State.{slot_step}
 use Rattle.cycle_sim.specs.Standing.{CanRun}
 use Rattle.cycle_sim.specs.Tables.{Running, state, slot_actions}
-use Rattle.cycle_sim.proofs.Steps.{frame_actions, same_step}
+use Rattle.cycle_sim.proofs.SlotSteps.{frame_actions, same_step}
 use Rattle.cycle_sim.proofs.machine.Machine.slot.Goals as goal
 
 pub step-requires : goal.step-requires

@@ -3,7 +3,7 @@ use Rattle.std.specs.Vec.{with_items}
 use Rattle.std.proofs.lemmas.List.{with_items_is}
 use Rattle.emu_machine.specs.State.{slot_step}
 use Rattle.cycle_sim.specs.Tables.{Running, state, state_of}
-use Rattle.cycle_sim.proofs.Steps.{slot_done}
+use Rattle.cycle_sim.proofs.SlotSteps.{slot_done}
 use Rattle.cycle_sim.proofs.machine.Machine.step.Goals as goal
 
 pub returns-clause-state : goal.returns-clause-state
