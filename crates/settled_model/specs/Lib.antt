@@ -1,4 +1,5 @@
 pub mod Held
+pub mod Steps
 pub mod Passing
 pub mod Opening
 pub mod Runs

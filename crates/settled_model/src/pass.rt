@@ -5,29 +5,34 @@ ghost use Rattle.design_core.specs.Dependency.{IsNode};
 ghost use Rattle.design_core.specs.Design.{IsDesign, driver, net_count};
 ghost use Rattle.design_core.specs.Limits.{IsWithin, word_count};
 ghost use Rattle.settled_model.specs.declared.turn.Turn.TheVariants.{Event};
+ghost use Rattle.design_core.specs.declared.node.NodeId.{NodeId};
 ghost use Rattle.design_core.specs.declared.node.NodeId.TheVariants.{Write};
 ghost use Rattle.design_core.specs.declared.element.Driver.TheVariants.{Read};
 ghost use Rattle.settled_model.specs.Held.{AreBases, shown, word_in};
 ghost use Rattle.settled_model.specs.Passing.{AreRenewed, HasRenewed, HasStored, driver_value, read_value};
+ghost use Rattle.settled_model.specs.Steps.{ArePlanned, IsStep, IsStepThere};
 
 use crate::elements::element_value;
 use crate::gates::value_of;
 use crate::memory::{read_bit, store};
+use crate::steps::Step;
 use crate::turn::Turn;
 use clock_rank::{Ranked, orders_are_sorted};
 use design_core::{Design, Driver, NodeId};
 use id_arena::{Key, MemId, NetId};
 
 /// Gives each net what its driver gives it, and in an event lets each write port act. Inputs keep what
-/// they have.
+/// they have. The steps tell how each node of the order gets its turn.
 pub(crate) fn run_pass(
     ranked: &Ranked<'_>,
+    steps: &[Step],
     bases: &[usize],
     turn: Turn,
     old: &[bool],
     new: &mut [bool],
     words: &mut [u128],
 )
+    requires steps { ArePlanned ranked.now.design ranked.now.order steps.now }
     requires bases { AreBases ranked.now.design bases.now }
     requires old_size { length old.now ≡ net_count ranked.now.design }
     requires new_size { length new.old ≡ net_count ranked.now.design }
@@ -39,7 +44,36 @@ pub(crate) fn run_pass(
     ranked.stands();
     orders_are_sorted();
     'nodes: for place in 0..ranked.len() {
-        renew(design, bases, ranked.at(place), turn, old, new, words);
+        take_step(design, bases, steps[place as usize], turn, old, new, words);
+    }
+}
+
+/// Gives the node of a step its turn.
+fn take_step(
+    design: &Design,
+    bases: &[usize],
+    step: Step,
+    turn: Turn,
+    old: &[bool],
+    new: &mut [bool],
+    words: &mut [u128],
+)
+    requires design { IsDesign design.now }
+    requires within { IsWithin design.now }
+    requires bases { AreBases design.now bases.now }
+    requires step { IsStepThere design.now step }
+    requires old_size { length old.now ≡ net_count design.now }
+    requires new_size { length new.old ≡ net_count design.now }
+    requires room { length words.old ≡ word_count design.now }
+    ensures { (node : NodeId) → IsStep design.now node step → HasRenewed design.now turn old.now node new.old words.old new.new words.new }
+{
+    match step {
+        Step::Follow {
+            net,
+            input,
+            inverts,
+        } => new[net.place() as usize] = value_of(new, input) != inverts,
+        Step::Node(node) => renew(design, bases, node, turn, old, new, words),
     }
 }
 

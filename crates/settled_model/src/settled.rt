@@ -8,10 +8,12 @@ ghost use Rattle.design_core.specs.Settled.{IsOpened};
 ghost use Rattle.design_core.specs.Valuation.{IsAddress};
 ghost use Rattle.settled_model.specs.Held.{AreBases, holding, valuation};
 ghost use Rattle.settled_model.specs.Opening.{AreInputs, Opens, stands_for};
+ghost use Rattle.settled_model.specs.Steps.{ArePlanned};
 
 use crate::memory::{bases_of, put_words, word_at};
 use crate::opening::Opening;
 use crate::pass::run_pass;
+use crate::steps::{Step, steps_of};
 use crate::tables::{put_values, set_states};
 use crate::turn::Turn;
 use clock_rank::Ranked;
@@ -29,6 +31,8 @@ use std::mem;
 #[derive(Drop)]
 pub struct Settled<'a> {
     ranked: &'a Ranked<'a>,
+    /// How each node of the order gets its turn.
+    steps: Vec<Step>,
     /// The value of each net.
     nets: Vec<bool>,
     /// Room for the values after the next event.
@@ -43,6 +47,7 @@ impl<'a> Model for Settled<'a> {
     ghost use Rattle.design_core.specs.Design.{net_count};
     ghost use Rattle.design_core.specs.Limits.{word_count};
     ghost use Rattle.settled_model.specs.Held.{AreBases, Held};
+    ghost use Rattle.settled_model.specs.Steps.{ArePlanned};
 
     ghost Value = { Held };
 
@@ -51,7 +56,8 @@ impl<'a> Model for Settled<'a> {
     ghost invariant = { λ s. (length s.nets.items ≡ net_count s.ranked.now.design)
         × (length s.next.items ≡ net_count s.ranked.now.design)
         × AreBases s.ranked.now.design s.bases.items
-        × (length s.words.items ≡ word_count s.ranked.now.design) };
+        × (length s.words.items ≡ word_count s.ranked.now.design)
+        × ArePlanned s.ranked.now.design s.ranked.now.order s.steps.items };
 }
 
 impl<'a> Settled<'a> {
@@ -67,13 +73,23 @@ impl<'a> Settled<'a> {
     {
         let design = ranked.design();
         design.stands();
+        let steps = steps_of(alloc, ranked)?;
         let bases = bases_of(alloc, design)?;
         let mut words = vec![in alloc; 0; bases[design.mems() as usize]]?;
         let mut states = vec![in alloc; false; design.nets() as usize]?;
         let mut nets = vec![in alloc; false; design.nets() as usize]?;
-        fill_opened(ranked, &bases, opening, &mut states, &mut nets, &mut words);
+        fill_opened(
+            ranked,
+            &steps,
+            &bases,
+            opening,
+            &mut states,
+            &mut nets,
+            &mut words,
+        );
         Ok(Settled {
             ranked,
+            steps,
             nets,
             next: states,
             bases,
@@ -90,6 +106,7 @@ impl<'a> Settled<'a> {
     {
         fill_next(
             self.ranked,
+            &self.steps,
             &self.bases,
             values,
             self.nets.as_slice(),
@@ -127,12 +144,14 @@ impl<'a> Settled<'a> {
 /// Fills tables of zeros with the opened valuation, and one more with the states on the way there.
 fn fill_opened(
     ranked: &Ranked<'_>,
+    steps: &[Step],
     bases: &[usize],
     opening: &Opening,
     states: &mut [bool],
     nets: &mut [bool],
     words: &mut [u128],
 )
+    requires steps { ArePlanned ranked.now.design ranked.now.order steps.now }
     requires bases { AreBases ranked.now.design bases.now }
     requires opening { Opens ranked.now.design opening.now }
     requires states { states.old ≡ replicate (net_count ranked.now.design) false }
@@ -145,18 +164,20 @@ fn fill_opened(
     set_states(design, opening.ones.as_slice(), states);
     put_values(opening.inputs.as_slice(), nets);
     put_words(design, bases, opening.words.as_slice(), words);
-    run_pass(ranked, bases, Turn::Opening, states, nets, words);
+    run_pass(ranked, steps, bases, Turn::Opening, states, nets, words);
 }
 
 /// Fills tables with the valuation after an event that gives these values.
 fn fill_next(
     ranked: &Ranked<'_>,
+    steps: &[Step],
     bases: &[usize],
     values: &PortValues,
     old: &[bool],
     new: &mut [bool],
     words: &mut [u128],
 )
+    requires steps { ArePlanned ranked.now.design ranked.now.order steps.now }
     requires bases { AreBases ranked.now.design bases.now }
     requires inputs { AreInputs ranked.now.design values.now }
     requires old_size { length old.now ≡ net_count ranked.now.design }
@@ -167,5 +188,5 @@ fn fill_next(
     ranked.design().stands();
     new.copy_from_slice(old);
     put_values(values.as_slice(), new);
-    run_pass(ranked, bases, Turn::Event, old, new, words);
+    run_pass(ranked, steps, bases, Turn::Event, old, new, words);
 }
