@@ -4,4 +4,5 @@ pub mod Closed
 pub mod Steps
 pub mod Relating
 pub mod Ordered
+pub mod Resting
 pub mod Ends

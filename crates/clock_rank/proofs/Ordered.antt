@@ -19,7 +19,7 @@ one_rank p a j k (ranked a1 j1 f deps1 is1) (ranked a2 k2 g deps2 is2) =
     is1 ∙ above_same f g (dependencies p a) (λ b h. one_rank p b (f b) (g b) (deps1 b h) (deps2 b h)) ∙ sym is2
 
 -- a dependency has a lesser rank
-lower : (p : Parts) (a b : NodeId) (k : ℕ) → HasRank p a k → Contains (dependencies p a) b → (j : ℕ) × HasRank p b j × (j < k)
+pub lower : (p : Parts) (a b : NodeId) (k : ℕ) → HasRank p a k → Contains (dependencies p a) b → (j : ℕ) × HasRank p b j × (j < k)
 lower p a b k (ranked a1 k1 rank deps is) h =
     let more = below_above rank (dependencies p a1) b h in (rank b, deps b h, omega arith)
 

@@ -1,9 +1,18 @@
--- The one cycle that is told of a design in which some node has no rank.
+-- Designs without a cycle, and the one cycle that is told of a design in which some node has no rank.
 -- The rule is told in docs/RULES.md, "Dependencies and rank".
 use Rattle.std.specs.Prelude.{◌≡◌, ◌+◌, ◌⊎◌, ℕ, List, [], ◌∷◌, ◌++◌, Some, Contains, slice_get}
 use Rattle.design_core.specs.declared.node.NodeId.{NodeId}
 use Rattle.design_core.specs.declared.parts.Parts.{Parts}
 use Rattle.design_core.specs.Dependency.{dependencies, IsNode, HasRank, Precedes}
+
+-- a node rests on the nodes on which it depends, and on all on which these rest
+pub data RestsOn (p : Parts) : NodeId → NodeId → Type 0 where
+  directly : (a b : NodeId) → Contains (dependencies p a) b → RestsOn p a b
+  through : (a b c : NodeId) → Contains (dependencies p a) b → RestsOn p b c → RestsOn p a c
+
+-- no node of the design rests on itself
+abbrev pub HasNoCycle : Parts → Type 0
+HasNoCycle p = (a : NodeId) → IsNode p a → RestsOn p a a → ⊥
 
 -- a node of the design that has no rank
 pub record Unranked (p : Parts) (a : NodeId) : Type 0 where

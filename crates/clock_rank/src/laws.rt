@@ -1,5 +1,5 @@
 //! The laws of orders and cycles.
-ghost use Rattle.clock_rank.specs.Answers.{RanksAreUnique, OrdersAreSorted, CyclesAreUnranked};
+ghost use Rattle.clock_rank.specs.Answers.{RanksAreUnique, OrdersAreSorted, RankedWhereNoCycle, CyclesAreUnranked};
 
 /// A node has at most one rank.
 pub fn ranks_are_unique()
@@ -9,6 +9,11 @@ pub fn ranks_are_unique()
 /// In an order all on which a node depends stands before the node.
 pub fn orders_are_sorted()
     ensures { OrdersAreSorted }
+{}
+
+/// A design is ranked exactly where none of its nodes rests on itself, directly or through others.
+pub fn ranked_where_no_cycle()
+    ensures { RankedWhereNoCycle }
 {}
 
 /// A design of which a cycle is told is not ranked.

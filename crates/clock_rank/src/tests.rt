@@ -2,7 +2,10 @@
 ghost use Rattle.std.specs.Prelude.{IsTrue};
 ghost use Rattle.design_core.specs.Limits.{IsCountable};
 
-use crate::{RankFault, cycles_are_unranked, orders_are_sorted, rank, ranks_are_unique};
+use crate::{
+    RankFault, cycles_are_unranked, orders_are_sorted, rank, ranked_where_no_cycle,
+    ranks_are_unique,
+};
 use design_core::{
     Design, Element, Flop, Level, Memory, NetName, NodeId, Op, Parts, Port, ReadPort, Scope,
     WritePort,
@@ -191,6 +194,7 @@ fn a_read_bit_stands_after_the_write_nodes(rt: HostRuntime) -> Result<(), Fail> 
 #[test]
 fn two_gates_in_a_ring_are_the_cycle(rt: HostRuntime) -> Result<(), Fail> {
     cycles_are_unranked();
+    ranked_where_no_cycle();
     let alloc = rt.alloc();
     let mut elements = List::new(alloc);
     elements.push(not_gate(alloc, 4, 3)?)?;
