@@ -10,8 +10,9 @@ use Rattle.emu_machine.specs.declared.netlist.EmuRegister.{EmuRegister}
 use Rattle.emu_machine.specs.declared.schedule.Action.{Action}
 use Rattle.emu_machine.specs.declared.schedule.Frame.{Frame}
 use Rattle.emu_machine.specs.declared.schedule.Slot.{Slot}
+use Rattle.emu_machine.specs.declared.results.Results.{Results}
 use Rattle.emu_machine.specs.Netlist.{net_drivers, LeadsTo, next, through}
-use Rattle.cycle_sim.specs.Standing.{IsThere, GateStands, RegisterStands, ChipStands, ActionStands, CanRun}
+use Rattle.cycle_sim.specs.Standing.{IsThere, GateStands, RegisterStands, ChipStands, ActionStands, CanRun, IsRegister}
 use Rattle.cycle_sim.specs.Tables.{HaveSizes}
 use Rattle.cycle_sim.specs.Example.{inverter, example_chip, example_load, example_input, example_schedule, example_results}
 
@@ -132,3 +133,11 @@ example_sizes row size = record { count = refl; sizes = sizes }
     sizes : (c : ℕ) (chip : Chip) → slice_get example_results.net c ≡ Some chip → length (get_or (row ∷ []) c []) ≡ chip.nets
     sizes zero chip at = size ∙ ap (λ (h : Chip). h.nets) (same_Some example_chip chip at)
     sizes (suc c) chip at = absurd (none-some chip at)
+
+-- a register of the chip, of results, a chip and a number that are the same
+pub register_there : (r : Results) (c k number : ℕ) (register : EmuRegister) → r ≡ example_results → c ≡ 0 → k ≡ number
+    → slice_get example_chip.registers number ≡ Some register → IsRegister r c k
+register_there r c k number register same chip is at =
+    subst (λ (q : Results). IsRegister q c k) (sym same)
+    (subst (λ n. IsRegister example_results n k) (sym chip)
+    (subst (λ n. IsRegister example_results 0 n) (sym is) (register, at)))

@@ -5,6 +5,7 @@ pub mod Passing
 pub mod Chips
 pub mod Taking
 pub mod SlotSteps
+pub mod UnderWay
 pub mod Loads
 pub mod Examples
 pub mod JudgedResults

@@ -7,6 +7,7 @@ use Rattle.std.proofs.lemmas.List.{length-set, length-replicate, get_or-set_same
 use Rattle.std.proofs.lemmas.List.Folds.{list_any_more}
 use Rattle.std.proofs.lemmas.Option.{none-some, same_Some, slice_get_within, slice_get-get_or, slice_get_past}
 use Rattle.design_core.specs.declared.parts.Parts.{Parts}
+use Rattle.design_core.specs.Design.{net_count}
 use Rattle.design_core.specs.Valuation.{Valuation}
 use Rattle.emu_machine.specs.declared.netlist.Chip.{Chip}
 use Rattle.emu_machine.specs.declared.netlist.EmuRegister.{EmuRegister}
@@ -21,8 +22,12 @@ use Rattle.emu_machine.specs.Mapped.{no_chip_map, chip_map, subject, memory_of, 
 use Rattle.history_law.proofs.Lists.{no}
 use Rattle.history_law.proofs.Naming.{same_number}
 use Rattle.cycle_sim.specs.Tables.{cell, state_of, HaveSizes}
-use Rattle.cycle_sim.specs.Loading.{HasValues, FreeAreZero, IsDesignNet, CanLoad, told, IsHeld, HasHeld, FirstHeld, AreHeld}
+use Rattle.cycle_sim.specs.Loading.{FreeAreZero, IsDesignNet, CanLoad, told, IsHeld, HasHeld, FirstHeld, AreHeld}
 use Rattle.cycle_sim.proofs.Counting.{is_other}
+
+-- a valuation whose nets have these values
+abbrev pub HasValues : Parts → List Bool → Valuation → Type 0
+HasValues p values v = (n : ℕ) → n < net_count p → v.net n ≡ get_or values n false
 
 -- ## One register
 

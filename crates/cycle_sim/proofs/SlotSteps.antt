@@ -1,5 +1,5 @@
 -- The state after a slot, from what registers took; and the state with the values of an event.
-use Rattle.std.proofs.Common.{◌≡◌, ◌<◌, ◌≤◌, ◌+◌, ℕ, Bool, false, List, [], ◌∷◌, drop, set, get_or, length, refl, sym, ap, subst, ◌∙◌, inl, inr, if◌then◌else◌}
+use Rattle.std.proofs.Common.{◌≡◌, ◌<◌, ◌≤◌, ◌+◌, ◌-◌, ℕ, Bool, false, List, [], ◌∷◌, take, drop, set, get_or, length, refl, sym, ap, subst, ◌∙◌, inl, inr, if◌then◌else◌, arith}
 use Rattle.std.proofs.Math.Path.{fun_ext}
 use Rattle.std.specs.Prelude.{◌==◌, ◌⊎◌, Option, Some, None, slice_get, unwrap_or, All, Contains}
 use Rattle.std.specs.Option.{option_or, option_map_or}
@@ -15,11 +15,11 @@ use Rattle.emu_machine.specs.declared.schedule.Action.TheVariants.{Input, Load, 
 use Rattle.emu_machine.specs.declared.schedule.Frame.{Frame}
 use Rattle.emu_machine.specs.declared.schedule.Slot.{Slot}
 use Rattle.emu_machine.specs.declared.results.Results.{Results}
-use Rattle.emu_machine.specs.State.{State, action_word, first_given, slot_step, present, after_slots, frame_slots}
+use Rattle.emu_machine.specs.State.{State, action_value, action_word, first_given, slot_step, present, after_slots, frame_slots}
 use Rattle.history_law.proofs.Naming.{same_number}
-use Rattle.cycle_sim.specs.Standing.{CanRun, ActionStands}
-use Rattle.cycle_sim.specs.Tables.{cell, state_of, HasPut, AllShown, slot_actions}
-use Rattle.cycle_sim.specs.Takes.{HasTaken}
+use Rattle.cycle_sim.specs.Standing.{CanRun, ActionStands, SlotsStand}
+use Rattle.cycle_sim.specs.Tables.{cell, state_of, HasPut, slot_actions}
+use Rattle.cycle_sim.specs.Takes.{HasGiven}
 use Rattle.cycle_sim.proofs.Counting.{is_other}
 
 -- ## Slots
@@ -41,13 +41,14 @@ module _ (r : Results) (nets : ℕ) where
       ap (λ o. option_or o (first_given (λ action. action_word r.net x action c m a) actions)) here ∙ rest
 
   -- what registers took is the slot step
-  pub stepped : (wires : List Wire) (outside : List Bool) (shown start after : List (List Bool)) (actions : List Action)
-      → All (ActionStands r nets) actions → AllShown r start shown → HasTaken r shown outside actions start after
-      → state_of (record { held = after; outside = outside }) ≡ slot_step r.net wires actions (state_of (record { held = start; outside = outside }))
-  stepped wires outside shown start after actions stand all taken =
-      let x : State = state_of (record { held = start; outside = outside }) in
+  pub stepped : (wires : List Wire) (outside : List Bool) (before after : List (List Bool)) (actions : List Action)
+      → All (ActionStands r nets) actions
+      → HasGiven (λ c n. first_given (λ a. action_value r.net wires (state_of (record { held = before; outside = outside })) a c n) actions) before after
+      → state_of (record { held = after; outside = outside }) ≡ slot_step r.net wires actions (state_of (record { held = before; outside = outside }))
+  stepped wires outside before after actions stand taken =
+      let x : State = state_of (record { held = before; outside = outside }) in
       let y : State = slot_step r.net wires actions x in
-      let held : cell after ≡ y.held = fun_ext (λ c. fun_ext (λ n. taken wires start all c n)) in
+      let held : cell after ≡ y.held = fun_ext (λ c. fun_ext (λ n. taken c n)) in
       let word : (λ (c m a : ℕ). x.word c m a) ≡ y.word =
       fun_ext (λ c. fun_ext (λ m. fun_ext (λ a. sym (ap (λ o. unwrap_or o 0) (no_words x actions stand c m a))))) in
       ap (λ (h : ℕ → ℕ → Bool). let z : State = record { held = h; word = x.word; outside = x.outside } in z) held
@@ -64,46 +65,59 @@ slot_is r k t slot at = ap (λ o. option_map_or (λ s. s.actions) o []) at
 contains : {X : Type 0} (xs : List X) (i : ℕ) (x : X) → slice_get xs i ≡ Some x → Contains xs x
 contains xs i x at = (i, slice_get_within xs i x at, get_or_from_slice_get xs i x x at)
 
+none_in : {X : Type 0} (x : X) → Contains [] x → ⊥
+none_in x (k, low, at) = absurd (let none : k < 0 = low in omega (arith, none))
+
+only_one : {X : Type 0} (only x : X) → Contains (only ∷ []) x → x ≡ only
+only_one only x (k, low, at) =
+    let first : k ≡ 0 = omega (arith, low) in
+    sym at ∙ ap (λ i. get_or (only ∷ []) i x) first
+
 -- the actions of each slot of each frame stand
-module _ (r : Results) (nets : ℕ) (runs : CanRun r nets) (k t : ℕ) where
-  in_slot : (frame : Frame) → slice_get r.schedule.frames k ≡ Some frame → (o : Option Slot) → slice_get frame.slots t ≡ o
-      → All (ActionStands r nets) (option_map_or (λ s. s.actions) o [])
-  in_slot frame at_frame None at = All-nil (ActionStands r nets)
-  in_slot frame at_frame (Some slot) at = λ j d low.
-      runs.actions frame slot (get_or slot.actions j d) (contains r.schedule.frames k frame at_frame) (contains frame.slots t slot at) (Contains-get_or slot.actions j d low)
+pub slots_stand : (r : Results) (nets k : ℕ) → CanRun r nets → SlotsStand r nets (frame_slots r k)
+slots_stand r nets k runs = go (slice_get r.schedule.frames k) refl
+  where
+    go : (o : Option Frame) → slice_get r.schedule.frames k ≡ o → SlotsStand r nets (option_map_or (λ f. f.slots) o [])
+    go None at slot has = absurd (none_in slot has)
+    go (Some frame) at slot has = λ j d low.
+        runs.actions frame slot (get_or slot.actions j d) (contains r.schedule.frames k frame at) has (Contains-get_or slot.actions j d low)
 
-  in_frame : (o : Option Frame) → slice_get r.schedule.frames k ≡ o
-      → All (ActionStands r nets) (option_map_or (λ s. s.actions) (slice_get (option_map_or (λ f. f.slots) o []) t) [])
-  in_frame None at = All-nil (ActionStands r nets)
-  in_frame (Some frame) at = in_slot frame at (slice_get frame.slots t) refl
+-- the same for results and slots that are the same
+pub slots_there : (r same : Results) (nets count k : ℕ) (slots : List Slot) → CanRun same count → r ≡ same → nets ≡ count → slots ≡ frame_slots same k
+    → SlotsStand r nets slots
+slots_there r same nets count k slots runs is number are =
+    subst (λ (some : List Slot). SlotsStand r nets some) (sym are)
+    (subst (λ (q : Results). SlotsStand q nets (frame_slots same k)) (sym is)
+    (subst (λ n. SlotsStand same n (frame_slots same k)) (sym number) (slots_stand same count k runs)))
 
-  pub actions_stand : All (ActionStands r nets) (slot_actions r k t)
-  actions_stand = in_frame (slice_get r.schedule.frames k) refl
+-- ## One slot of a frame, alone
 
--- the actions of a slot, of results that are the same
-pub frame_actions : (r same : Results) (nets k t : ℕ) (actions : List Action) → CanRun same nets → r ≡ same → actions ≡ slot_actions same k t
-    → All (ActionStands r nets) actions
-frame_actions r same nets k t actions runs is acts =
-    subst (λ (some : List Action). All (ActionStands r nets) some) (sym acts)
-    (subst (λ (q : Results). All (ActionStands q nets) (slot_actions same k t)) (sym is) (actions_stand same nets runs k t))
+abbrev pub alone : Results → ℕ → ℕ → List Slot
+alone r k t = record { actions = slot_actions r k t } ∷ []
 
--- a slot step, of tables that are the same
-pub slot_done : (r : Results) (wires : List Wire) (actions : List Action) (old old-same new new-same : List (List Bool)) (outside outside-same : List Bool)
-    → old-same ≡ old → new-same ≡ new → outside-same ≡ outside
-    → state_of (record { held = new; outside = outside }) ≡ slot_step r.net wires actions (state_of (record { held = old; outside = outside }))
-    → state_of (record { held = new-same; outside = outside-same }) ≡ slot_step r.net wires actions (state_of (record { held = old-same; outside = outside-same }))
-slot_done r wires actions old old-same new new-same outside outside-same e f g step =
-    subst (λ (o : List Bool). state_of (record { held = new-same; outside = o }) ≡ slot_step r.net wires actions (state_of (record { held = old-same; outside = o }))) (sym g)
-    (subst (λ (n : List (List Bool)). state_of (record { held = n; outside = outside }) ≡ slot_step r.net wires actions (state_of (record { held = old-same; outside = outside }))) (sym f)
-    (subst (λ (h : List (List Bool)). state_of (record { held = new; outside = outside }) ≡ slot_step r.net wires actions (state_of (record { held = h; outside = outside }))) (sym e) step))
+pub is_alone : (r : Results) (k t : ℕ) (slots : List Slot) → slots ≡ frame_slots r k → t < length (frame_slots r k)
+    → take (t + 1 - t) (drop t slots) ≡ alone r k t
+is_alone r k t slots is low =
+    let slot : Slot = get_or (frame_slots r k) t (record { actions = [] }) in
+    let at : slice_get (frame_slots r k) t ≡ Some slot = slice_get-get_or (frame_slots r k) t (record { actions = [] }) low in
+    let one : t + 1 - t ≡ 1 = omega arith in
+    ap (λ n. take n (drop t slots)) one
+    ∙ ap (λ (some : List Slot). take 1 (drop t some)) is
+    ∙ ap (take 1) (drop_more (frame_slots r k) t (record { actions = [] }) low)
+    ∙ ap (λ (actions : List Action). let s : Slot = record { actions = actions } in s ∷ []) (sym (slot_is r k t slot at))
 
--- a slot step, of results that are the same
-pub same_step : (r same : Results) (wires : List Wire) (k t : ℕ) (actions : List Action) (x y : State) → r ≡ same → actions ≡ slot_actions same k t
-    → y ≡ slot_step r.net wires actions x → y ≡ slot_step same.net wires (slot_actions same k t) x
-same_step r same wires k t actions x y is acts step =
-    step
-    ∙ ap (λ (q : Results). slot_step q.net wires actions x) is
-    ∙ ap (λ (some : List Action). slot_step same.net wires some x) acts
+-- the actions of a slot alone stand
+pub slot_stands : (r : Results) (nets k t : ℕ) (slots : List Slot) → CanRun r nets → t < length (frame_slots r k) → slots ≡ alone r k t
+    → SlotsStand r nets slots
+slot_stands r nets k t slots runs low is = subst (λ (some : List Slot). SlotsStand r nets some) (sym is) stands
+  where
+    stands : SlotsStand r nets (alone r k t)
+    stands slot has =
+        let here : Slot = get_or (frame_slots r k) t slot in
+        let at : slice_get (frame_slots r k) t ≡ Some here = slice_get-get_or (frame_slots r k) t slot low in
+        let all : All (ActionStands r nets) here.actions = slots_stand r nets k runs here (contains (frame_slots r k) t here at) in
+        let one : slot ≡ record { actions = slot_actions r k t } = only_one (record { actions = slot_actions r k t }) slot has in
+        subst (λ (actions : List Action). All (ActionStands r nets) actions) (sym (slot_is r k t here at) ∙ ap (λ (s : Slot). s.actions) (sym one)) all
 
 -- ## Values that stand outside
 
@@ -139,17 +153,15 @@ one_put values k bit low is table after within put n =
     ∙ given_more (drop (k + 1) values) bit table within n
     ∙ ap (λ vs. unwrap_or (given vs n) (get_or table n false)) (sym (drop_more values k bit low ∙ ap (λ b. b ∷ drop (k + 1) values) (sym is)))
 
--- ## Frames
+-- ## Slots one after the other
 
-pub one_slot : (r : Results) (wires : List Wire) (k t : ℕ) → t < length (frame_slots r k)
-    → (x y : State) → y ≡ slot_step r.net wires (slot_actions r k t) x
-    → after_slots r.net wires (drop (t + 1) (frame_slots r k)) y ≡ after_slots r.net wires (drop t (frame_slots r k)) x
-one_slot r wires k t low x y step =
-    let slot : Slot = get_or (frame_slots r k) t (record { actions = [] }) in
-    let at : slice_get (frame_slots r k) t ≡ Some slot = slice_get-get_or (frame_slots r k) t (record { actions = [] }) low in
-    let here : y ≡ slot_step r.net wires slot.actions x = step ∙ ap (λ (actions : List Action). slot_step r.net wires actions x) (slot_is r k t slot at) in
-    ap (after_slots r.net wires (drop (t + 1) (frame_slots r k))) here
-    ∙ ap (λ (some : List Slot). after_slots r.net wires some x) (sym (drop_more (frame_slots r k) t (record { actions = [] }) low))
+pub one_slot : (r : Results) (wires : List Wire) (slots : List Slot) (t : ℕ) (slot : Slot) → t < length slots → slot ≡ get_or slots t slot
+    → (actions : List Action) → actions ≡ slot.actions
+    → (x y : State) → y ≡ slot_step r.net wires actions x
+    → after_slots r.net wires (drop (t + 1) slots) y ≡ after_slots r.net wires (drop t slots) x
+one_slot r wires slots t slot low is actions same x y step =
+    ap (after_slots r.net wires (drop (t + 1) slots)) (step ∙ ap (λ (some : List Action). slot_step r.net wires some x) same)
+    ∙ ap (λ (some : List Slot). after_slots r.net wires some x) (sym (drop_more slots t slot low ∙ ap (λ (s : Slot). s ∷ drop (t + 1) slots) (sym is)))
 
 pub all_slots : (r : Results) (wires : List Wire) (slots : List Slot) (k : ℕ) → length slots ≤ k → (x : State)
     → after_slots r.net wires (drop k slots) x ≡ x

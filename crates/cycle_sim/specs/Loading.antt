@@ -4,7 +4,6 @@ use Rattle.std.specs.Prelude.{◌≡◌, ◌<◌, ◌&&◌, ℕ, Bool, true, fal
 use Rattle.std.specs.List.{list_any}
 use Rattle.design_core.specs.declared.parts.Parts.{Parts}
 use Rattle.design_core.specs.Design.{net_count}
-use Rattle.design_core.specs.Valuation.{Valuation}
 use Rattle.emu_machine.specs.declared.netlist.Chip.{Chip}
 use Rattle.emu_machine.specs.declared.netlist.EmuRegister.{EmuRegister}
 use Rattle.emu_machine.specs.declared.map.ChipMap.{ChipMap}
@@ -14,10 +13,6 @@ use Rattle.emu_machine.specs.declared.results.Results.{Results}
 use Rattle.emu_machine.specs.Netlist.{is_chip_net}
 use Rattle.emu_machine.specs.State.{State}
 use Rattle.emu_machine.specs.Mapped.{subject, is_kept, kept_by_register}
-
--- a valuation whose nets have these values
-abbrev pub HasValues : Parts → List Bool → Valuation → Type 0
-HasValues p values v = (n : ℕ) → n < net_count p → v.net n ≡ get_or values n false
 
 -- whatever is not kept is 0
 abbrev pub FreeAreZero : Results → State → Type 0

@@ -1,6 +1,6 @@
 -- What the machine asks of results: parts that are there, no cycle of gates, and actions whose targets are there.
 -- The rules are told in docs/RULES.md, "Netlists of chips" and "Actions, slots and frames".
-use Rattle.std.specs.Prelude.{◌≡◌, ◌<◌, ◌≤◌, ℕ, Some, length, slice_get, Contains, All, IfSome}
+use Rattle.std.specs.Prelude.{◌≡◌, ◌<◌, ◌≤◌, ℕ, Some, List, length, slice_get, Contains, All, IfSome}
 use Rattle.id_arena.specs.declared.keys.ChipNetId.{ChipNetId}
 use Rattle.design_core.specs.Limits.{most_inputs}
 use Rattle.emu_machine.specs.declared.netlist.Chip.{Chip}
@@ -45,6 +45,10 @@ abbrev pub ActionStands : Results → ℕ → Action → Type 0
 ActionStands r nets (Input chip register net) = IsRegister r chip.place register.place × (net.place < nets)
 ActionStands r nets (Load chip register) = IsRegister r chip.place register.place
 ActionStands r nets other = ⊥
+
+-- the actions of each of some slots stand
+abbrev pub SlotsStand : Results → ℕ → List Slot → Type 0
+SlotsStand r nets slots = (slot : Slot) → Contains slots slot → All (ActionStands r nets) slot.actions
 
 -- Results that the machine runs, where so many nets of the design have an outside value.
 pub record CanRun (r : Results) (nets : ℕ) : Type 0 where

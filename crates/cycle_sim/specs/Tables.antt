@@ -1,6 +1,6 @@
 -- The machine's state as tables of values.
 -- The rules are told in docs/RULES.md, "Actions, slots and frames" and "Loaded".
-use Rattle.std.specs.Prelude.{◌≡◌, ◌<◌, ℕ, Bool, false, Some, List, [], length, get_or, slice_get, unwrap_or}
+use Rattle.std.specs.Prelude.{◌≡◌, ◌<◌, ℕ, Bool, true, false, Some, List, [], length, get_or, slice_get, unwrap_or}
 use Rattle.std.specs.Option.{option_map_or}
 use Rattle.design_core.specs.declared.values.PortBit.{PortBit}
 use Rattle.design_core.specs.Event.{given}
@@ -75,6 +75,16 @@ pub record IsMachine (r : Results) (t : Tables) (shown : List (List Bool)) (step
   pub held : HaveSizes r t.held
   pub stepped : AllStepped r steps
   pub settled : AllShown r t.held shown
+
+-- A machine between two slots of a frame: the nets show what came to them from what registers held at some
+-- time, and where they are told to be fresh, from what registers hold now.
+pub record IsUnderWay (r : Results) (t : Tables) (shown : List (List Bool)) (steps : List (List Step)) (fresh : Bool) : Type 0 where
+  pub runs : CanRun r (length t.outside)
+  pub held : HaveSizes r t.held
+  pub stepped : AllStepped r steps
+  pub start : List (List Bool)
+  pub shows : AllShown r start shown
+  pub now : fresh ≡ true → AllShown r t.held shown
 
 -- the actions of a slot of a frame
 abbrev pub slot_actions : Results → ℕ → ℕ → List Action

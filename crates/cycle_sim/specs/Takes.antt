@@ -1,8 +1,9 @@
 -- What actions give to registers, where all is read from what nets showed before.
 -- The rule is told in docs/RULES.md, "Actions, slots and frames".
-use Rattle.std.specs.Prelude.{◌≡◌, ℕ, Bool, Option, List, unwrap_or}
+use Rattle.std.specs.Prelude.{◌≡◌, ℕ, Bool, true, false, Option, List, unwrap_or}
 use Rattle.id_arena.specs.declared.wire.Wire.{Wire}
 use Rattle.emu_machine.specs.declared.schedule.Action.{Action}
+use Rattle.emu_machine.specs.declared.schedule.Action.TheVariants.{Input}
 use Rattle.emu_machine.specs.declared.results.Results.{Results}
 use Rattle.emu_machine.specs.State.{action_value, first_given}
 use Rattle.cycle_sim.specs.Tables.{cell, state_of, AllShown}
@@ -22,3 +23,8 @@ abbrev pub HasTaken : Results → List (List Bool) → List Bool → List Action
 HasTaken r shown outside actions before after =
     (wires : List Wire) (start : List (List Bool)) → AllShown r start shown
     → HasGiven (λ c n. first_given (λ a. action_value r.net wires (state_of (record { held = start; outside = outside })) a c n) actions) before after
+
+-- whether an action takes an outside value, and so reads no net
+abbrev pub takes_input : Action → Bool
+takes_input (Input chip register net) = true
+takes_input other = false

@@ -2,8 +2,9 @@
 //!
 //! A machine is opened on results and on what it is loaded with. `slot` is one slot step, `present`
 //! and `frame` do an event, and `net` and `register` are the values of the state. None of these takes
-//! memory. A slot goes once over the gates of each chip, by a plan that is made when the machine is
-//! opened: a list of steps, one for each gate, in an order in which inputs come first.
+//! memory. Nets get their values by a pass over the gates, by a plan that is made when the machine is
+//! opened: a list of steps, one for each gate, in an order in which inputs come first. A frame has a pass
+//! before each slot that reads a net that may have changed, and one at its end.
 #![tactic(auto)]
 
 mod gates;
@@ -12,6 +13,7 @@ mod loaded;
 mod machine;
 mod order;
 mod pass;
+mod slots;
 mod steps;
 mod taken;
 

@@ -2,15 +2,16 @@
 
 ghost use Rattle.std.specs.Prelude.{◌≡◌, ◌<◌, IfOk, Some, length};
 ghost use Rattle.design_core.specs.Design.{net_count};
-ghost use Rattle.design_core.specs.Valuation.{Valuation};
 ghost use Rattle.emu_machine.specs.Mapped.{IsLoaded};
-ghost use Rattle.cycle_sim.specs.Loading.{AreHeld, CanLoad, CanLoadRegisters, ChipLoads, FreeAreZero, HasHeld, HasValues, IsHeld, told};
+ghost use Rattle.settled_model.specs.Held.{valuation};
+ghost use Rattle.cycle_sim.specs.Loading.{AreHeld, CanLoad, CanLoadRegisters, ChipLoads, FreeAreZero, HasHeld, IsHeld, told};
 ghost use Rattle.cycle_sim.specs.Tables.{HaveSizes, state_of};
 
 use design_core::Design;
 use emu_io::{List, NoMemory};
 use emu_machine::{Chip, ChipMap, EmuRegister, Results, Subject};
 use id_arena::Key;
+use settled_model::Settled;
 use std::alloc::Global;
 use std::marker::Model;
 
@@ -33,22 +34,26 @@ impl Model for Loaded {
 }
 
 impl Loaded {
-    /// What is loaded from a valuation, of which `values` has the value of each net of the design. A kept
-    /// register holds the value of the net that it stands for, and a free one holds 0.
-    pub fn from_values(
+    /// What is loaded from the valuation that the original has reached: a kept register holds the value
+    /// of the net that it stands for, a free one holds 0, and each input stands outside with its value.
+    ///
+    /// The valuation is one of this design, and the map of the results fits the design, as rule A7 asks.
+    pub fn from_settled(
         alloc: Global,
+        settled: &Settled<'_>,
         design: &Design,
         results: &Results,
-        values: &[bool],
     ) -> Result<Loaded, NoMemory>
-        requires values { length values.now ≡ net_count design.now }
+        requires same { settled.now.parts ≡ design.now }
         requires mapped { CanLoad design.now results.now }
         ensures sizes { IfOk result (λ t. HaveSizes results.now t.held) }
-        ensures outside { IfOk result (λ t. t.outside ≡ values.now) }
-        ensures loaded { IfOk result (λ t. (v : Valuation) → HasValues design.now values.now v
-            → IsLoaded design.now results.now v (state_of t)) }
+        ensures outside { IfOk result (λ t. t.outside ≡ settled.now.nets) }
+        ensures inputs { IfOk result (λ t. length t.outside ≡ net_count design.now) }
+        ensures loaded { IfOk result (λ t. IsLoaded design.now results.now (valuation settled.now) (state_of t)) }
         ensures free { IfOk result (λ t. FreeAreZero results.now (state_of t)) }
     {
+        let _design = design;
+        let values = settled.values();
         let held = held_of(alloc, results, values)?;
         let outside = copy_of(alloc, values)?;
         Ok(Loaded { held, outside })

@@ -1,21 +1,22 @@
 //! The machine, slot by slot and event by event.
 
-ghost use Rattle.std.specs.Prelude.{◌≡◌, ◌<◌, ℕ, Some, All, List, [], IfOk, get_or, length, slice_get};
+ghost use Rattle.std.specs.Prelude.{◌≡◌, ◌<◌, ◌∷◌, ℕ, Some, All, List, [], IfOk, get_or, length, slice_get};
 ghost use Rattle.id_arena.specs.declared.wire.Wire.{Wire};
 ghost use Rattle.emu_machine.specs.declared.netlist.Chip.{Chip};
 ghost use Rattle.emu_machine.specs.declared.netlist.EmuRegister.{EmuRegister};
 ghost use Rattle.emu_machine.specs.Netlist.{chip_at};
-ghost use Rattle.emu_machine.specs.State.{after_frame, frame_slots, net_value, present, slot_step};
-ghost use Rattle.cycle_sim.specs.Standing.{ActionStands, CanRun, ChipStands, IsRegister};
-ghost use Rattle.cycle_sim.specs.Tables.{AllStepped, cell, HasPut, HaveSizes, IsMachine, slot_actions, state, state_of};
+ghost use Rattle.emu_machine.specs.State.{after_frame, after_slots, frame_slots, net_value, present, slot_step};
+ghost use Rattle.cycle_sim.specs.Standing.{CanRun, ChipStands, IsRegister, SlotsStand};
+ghost use Rattle.cycle_sim.specs.Tables.{AllStepped, cell, HasPut, HaveSizes, slot_actions, state};
 
 use crate::loaded::Loaded;
 use crate::pass::settle_all;
+use crate::slots::do_slots;
 use crate::steps::{Step, steps_of};
-use crate::taken::{register_of, take_all};
+use crate::taken::register_of;
 use design_core::{PortBit, PortValues};
 use emu_io::{List, NoMemory};
-use emu_machine::{Action, Results, Slot};
+use emu_machine::{Results, Slot};
 use id_arena::{ChipId, ChipNetId, GroupId, Key, RegId};
 use std::alloc::Global;
 use std::marker::Model;
@@ -94,7 +95,7 @@ impl<'a> Machine<'a> {
     {
         self.stands();
         let results = self.results;
-        self.step(actions_of(results, group, t as usize));
+        self.do_slots(slot_alone(results, group, t as usize));
     }
 
     /// Does the frame of an event: its values are put outside, and all slots of its group's frame follow.
@@ -109,9 +110,7 @@ impl<'a> Machine<'a> {
         self.stands();
         let results = self.results;
         self.present(values);
-        'slots: for t in 0..slots_of(results, group).len() {
-            self.step(actions_of(results, group, t));
-        }
+        self.do_slots(slots_of(results, group));
     }
 
     /// The value of a net.
@@ -140,42 +139,23 @@ impl<'a> Machine<'a> {
         let _ = &self.results;
     }
 
-    /// Does the actions of a slot.
-    fn step(&mut self, actions: &[Action])
-        requires { All (ActionStands self.old.results (length self.old.tables.outside)) actions.now }
+    /// Does some slots, one after the other.
+    fn do_slots(&mut self, slots: &[Slot])
+        requires { SlotsStand self.old.results (length self.old.tables.outside) slots.now }
         ensures results { self.new.results ≡ self.old.results }
         ensures inputs { self.new.tables.outside ≡ self.old.tables.outside }
         ensures state { (wires : List Wire)
-            → state self.new ≡ slot_step self.old.results.net wires actions.now (state self.old) }
+            → state self.new ≡ after_slots self.old.results.net wires slots.now (state self.old) }
     {
-        do_actions(
+        do_slots(
             self.results,
             self.steps.as_slice(),
             self.outside.as_slice(),
-            actions,
+            slots,
             &mut self.held,
             &mut self.shown,
         );
     }
-}
-
-/// Gives the targets of some actions their values, and then the nets of all chips theirs.
-fn do_actions(
-    results: &Results,
-    steps: &[List<Step>],
-    outside: &[bool],
-    actions: &[Action],
-    held: &mut [List<bool>],
-    shown: &mut [List<bool>],
-)
-    requires actions { All (ActionStands results.now (length outside.now)) actions.now }
-    requires machine { IsMachine results.now (record { held = held.old; outside = outside.now }) shown.old steps.now }
-    ensures machine { IsMachine results.now (record { held = held.new; outside = outside.now }) shown.new steps.now }
-    ensures state { (wires : List Wire) → state_of (record { held = held.new; outside = outside.now })
-        ≡ slot_step results.now.net wires actions.now (state_of (record { held = held.old; outside = outside.now })) }
-{
-    take_all(results, shown, outside, actions, held);
-    settle_all(results, steps, held, shown);
 }
 
 /// The value that a table has for a net of a chip.
@@ -200,13 +180,13 @@ fn slots_of(results: &Results, group: GroupId) -> &[Slot]
         .as_slice()
 }
 
-/// The actions of a slot.
-fn actions_of(results: &Results, group: GroupId, t: usize) -> &[Action]
+/// One slot of a group's frame, alone.
+fn slot_alone(results: &Results, group: GroupId, t: usize) -> &[Slot]
     requires group { group.place < length results.now.schedule.frames }
     requires slot { t < length (frame_slots results.now group.place) }
-    ensures { result.now ≡ slot_actions results.now group.place t }
+    ensures { result.now ≡ record { actions = slot_actions results.now group.place t } ∷ [] }
 {
-    slots_of(results, group)[t].actions.as_slice()
+    &slots_of(results, group)[t..=t]
 }
 
 /// The steps of the gates of each chip.

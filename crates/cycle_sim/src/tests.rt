@@ -118,6 +118,16 @@ fn one_bit(alloc: Global, value: bool) -> Result<PortValues, NoMemory>
     Ok(values)
 }
 
+// What the register behind the input, and the spare one, hold.
+fn registers(machine: &Machine<'_>) -> [bool; 2]
+    requires { machine.now.results ≡ example_results }
+{
+    let chip = ChipId::of(0);
+    let input = machine.register(chip, RegId::of(0));
+    let spare = machine.register(chip, RegId::of(1));
+    [input, spare]
+}
+
 #[test]
 fn a_slot_reads_what_was_before(rt: HostRuntime) -> Result<(), Fail> {
     let results = example_results(rt.alloc())?;
@@ -137,5 +147,16 @@ fn a_slot_reads_what_was_before(rt: HostRuntime) -> Result<(), Fail> {
     assert!(rt; !machine.net(chip, ChipNetId::of(3)));
     assert!(rt; !machine.net(chip, ChipNetId::of(2)));
     assert!(rt; machine.net(chip, ChipNetId::of(1)));
+    Ok(())
+}
+
+#[test]
+fn a_load_reads_what_the_slot_before_gave(rt: HostRuntime) -> Result<(), Fail> {
+    let results = example_results(rt.alloc())?;
+    example_runs(&results);
+    let mut machine = Machine::open(rt.alloc(), &results, zeros(rt.alloc())?)?;
+    assert!(rt; registers(&machine) == [false, false]);
+    machine.frame(GroupId::of(0), &one_bit(rt.alloc(), true)?);
+    assert!(rt; registers(&machine) == [true, true]);
     Ok(())
 }

@@ -14,7 +14,7 @@ use Rattle.design_core.specs.Design.{IsDesign, is_net, port_bits}
 use Rattle.design_core.specs.Event.{IsHistory, HasOneHistory}
 use Rattle.design_core.specs.Influence.{Group, all_groups}
 use Rattle.design_core.specs.Settled.{IsOpened, OpeningFits}
-use Rattle.design_core.specs.Valuation.{Valuation}
+use Rattle.design_core.specs.Valuation.{SameValues, Valuation}
 use Rattle.one_history.specs.Histories.{OneHistory}
 use Rattle.history_law.specs.Drivers.{InputIsInputBit}
 use Rattle.history_law.proofs.Naming.{number_same}
@@ -25,17 +25,18 @@ use Rattle.emu_machine.specs.declared.results.Results.{Results}
 use Rattle.emu_machine.specs.declared.schedule.Frame.{Frame}
 use Rattle.emu_machine.specs.declared.place.Place.TheVariants as place
 use Rattle.emu_machine.specs.declared.map.Spot.{Spot}
+use Rattle.emu_machine.specs.declared.map.Subject.{Subject}
+use Rattle.emu_machine.specs.declared.map.Subject.TheVariants.{Net, Up, Down, Take, Next, TakeWrite}
 use Rattle.emu_machine.specs.Acceptance.{A2, A4, A5, A7, Holds, frame_differs}
 use Rattle.emu_machine.specs.Headline.{EventsFit, event_values}
 use Rattle.emu_machine.specs.Law.{IsCase, MapFits}
-use Rattle.emu_machine.specs.Mapped.{IsLoaded}
+use Rattle.emu_machine.specs.Mapped.{IsLoaded, IsValueOf, subject}
 use Rattle.emu_machine.specs.Netlist.{IsNetlist, chip_at}
 use Rattle.emu_machine.specs.Plain.{IsPlainResults}
 use Rattle.emu_machine.specs.State.{State, after_frame, run_of}
 use Rattle.cycle_sim.specs.Judged.{IsJudged}
-use Rattle.cycle_sim.specs.Loading.{FreeAreZero, HasValues}
+use Rattle.cycle_sim.specs.Loading.{CanLoad, FreeAreZero, IsDesignNet}
 use Rattle.schedule_check.specs.Verdict.{all_inputs}
-use Rattle.settled_model.specs.Held.{Held, valuation}
 use Rattle.settled_model.specs.Opening.{AreInputs, Opens}
 use Rattle.settled_model.specs.Runs.{OpeningsFit}
 use Rattle.event_replay.specs.Runs.{machine_trace, spots_of, BreaksOff, ReplayMeans as RunMeans}
@@ -133,11 +134,32 @@ spots_there results mapped spot has = mapped.outputs has.0 spot (placed results.
 
 -- ## Loading
 
--- the values of the settled valuation are those of each opened one
-pub opened_values : OpenedAreSame → (p : Parts) (inputs : List PortBit) (settled : Held) (values : List Bool) → IsDesign p → IsRanked p → OpeningFits p (opened_with inputs)
-    → values ≡ settled.nets → IsOpened p (opened_with inputs) (valuation settled) → (v : Valuation) → IsOpened p (opened_with inputs) v → HasValues p values v
-opened_values law p inputs settled values design ranked fits same opened v is n low =
-    (law p (opened_with inputs) v (valuation settled) design ranked fits is opened).nets n low ∙ ap (λ nets. get_or nets n false) (sym same)
+-- what is loaded from one of two valuations that are the same is loaded from the other
+loaded_same : (p : Parts) (results : Results) (v w : Valuation) (x : State) → CanLoad p results → SameValues p v w → IsLoaded p results w x → IsLoaded p results v x
+loaded_same p results v w x can same loaded =
+    record {
+      state = record {
+        held = λ c n kept. value (subject results c n) (can.subjects c n kept) (x.held c n) (loaded.state.held c n kept);
+        words = λ c m of a is there. loaded.state.words c m of a is there ∙ sym (same.words of a there);
+      };
+      outside = λ n low input. loaded.outside n low input ∙ sym (same.nets n low);
+    }
+  where
+    value : (o : Option Subject) → IsDesignNet p o → (b : Bool) → IsValueOf w o b → IsValueOf v o b
+    value (Some (Net n)) low b is = is ∙ sym (same.nets n.place low)
+    value (Some (Up n)) none b is = absurd none
+    value (Some (Down n)) none b is = absurd none
+    value (Some (Take e)) none b is = absurd none
+    value (Some (Next e)) none b is = absurd none
+    value (Some (TakeWrite m k)) none b is = absurd none
+    value None none b is = absurd none
+
+-- what is loaded from an opened valuation is loaded from each of the same opening
+pub opened_loaded : OpenedAreSame → (p : Parts) (inputs : List PortBit) (results : Results) (w : Valuation) (x : State)
+    → IsDesign p → IsRanked p → OpeningFits p (opened_with inputs) → CanLoad p results
+    → IsOpened p (opened_with inputs) w → IsLoaded p results w x → (v : Valuation) → IsOpened p (opened_with inputs) v → IsLoaded p results v x
+opened_loaded law p inputs results w x design ranked fits can opened loaded v is =
+    loaded_same p results v w x can (law p (opened_with inputs) v w design ranked fits is opened) loaded
 
 -- ## The trace of the machine
 

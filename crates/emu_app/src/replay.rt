@@ -256,5 +256,5 @@ fn load(
     ranked.design().stands();
     ranked.stands();
     let settled = Settled::open(alloc, ranked, &opening_with(alloc, inputs))?;
-    Loaded::from_values(alloc, ranked.design(), results, settled.values())
+    Loaded::from_settled(alloc, &settled, ranked.design(), results)
 }

@@ -23,10 +23,10 @@ RunsGiveTheHistory =
     → Follow p v events vs
     → (h : HasOneHistory p o events) × SameHistory p h.history (v ∷ vs)
 
--- the last valuation of a run that began with this one
-abbrev pub last_of : Valuation → List Valuation → Valuation
-last_of v [] = v
-last_of v (w ∷ ws) = last_of w ws
+-- the last of some things that follow a first one; the first one where nothing follows
+abbrev pub last_of : {A : Type 0} → A → List A → A
+last_of x [] = x
+last_of x (y ∷ ys) = last_of y ys
 
 -- a run grows by one event and the valuation after it
 abbrev pub RunsGrow : Type 0

@@ -4,13 +4,12 @@ use Rattle.design_core.specs.Design.{IsDesign}
 use Rattle.design_core.specs.Settled.{IsOpened, OpeningFits}
 use Rattle.design_core.specs.Valuation.{Valuation}
 use Rattle.emu_machine.specs.Mapped.{IsLoaded}
-use Rattle.cycle_sim.specs.Loading.{HasValues}
 use Rattle.cycle_sim.specs.Tables.{Tables, state_of}
 use Rattle.settled_model.specs.declared.opening.Opening.{Opening}
 use Rattle.settled_model.specs.Held.{valuation}
 use Rattle.settled_model.specs.Opening.{Opens, stands_for}
 use Rattle.emu_app.specs.Runs.{opened_with}
-use Rattle.emu_app.proofs.Replaying.{if_ok, opened_values, opens_inputs}
+use Rattle.emu_app.proofs.Replaying.{if_ok, opened_loaded, opens_inputs}
 use Rattle.emu_app.proofs.replay.load.Goals as goal
 
 pub open-requires : goal.open-requires
@@ -25,12 +24,9 @@ returns-clause-loaded c =
     let fits : OpeningFits p (opened_with c.args.inputs) = c.openings_fit.ensures p _ (opens_inputs c.input_is_input_bit.ensures p c.args.inputs c.requires.inputs) in
     let opened : IsOpened p (opened_with c.args.inputs) (valuation c.in_ok-settled.settled) =
     subst (λ (o : Opening). IsOpened p (stands_for o) (valuation c.in_ok-settled.settled)) c.opening_with.ensures c.in_ok-settled.ensures.opened in
-    let values : (v : Valuation) → IsOpened p (opened_with c.args.inputs) v → HasValues p c.values.result.now v =
-    opened_values c.opened_are_same.ensures p c.args.inputs c.in_ok-settled.settled c.values.result.now design c.stands-2.ensures.ranked fits c.values.ensures.values opened in
-    let loaded : IfOk c.from_values.result (λ t. (v : Valuation) → HasValues p c.values.result.now v → IsLoaded p c.args.results.now v (state_of t)) =
-    subst (λ (q : Parts). IfOk c.from_values.result (λ t. (v : Valuation) → HasValues q c.values.result.now v → IsLoaded q c.args.results.now v (state_of t))) c.design-2.ensures c.from_values.ensures.loaded in
-    if_ok (λ (t : Tables). (v : Valuation) → HasValues p c.values.result.now v → IsLoaded p c.args.results.now v (state_of t))
+    if_ok (λ (t : Tables). IsLoaded p c.args.results.now (valuation c.in_ok-settled.settled) (state_of t))
     (λ (t : Tables). (v : Valuation) → IsOpened p (opened_with c.args.inputs) v → IsLoaded p c.args.results.now v (state_of t))
-    c.from_values.result
-    (λ t here v is. here v (values v is))
-    loaded
+    c.from_settled.result
+    (λ t. opened_loaded c.opened_are_same.ensures p c.args.inputs c.args.results.now (valuation c.in_ok-settled.settled) (state_of t)
+        design c.stands-2.ensures.ranked fits c.requires.mapped opened)
+    (subst (λ (q : Parts). IfOk c.from_settled.result (λ t. IsLoaded q c.args.results.now (valuation c.in_ok-settled.settled) (state_of t))) c.design-2.ensures c.from_settled.ensures.loaded)

@@ -1,26 +1,13 @@
-use Rattle.std.proofs.Common.{◌<◌, List, Bool, length, sym, ap, subst, ◌∙◌, arith}
+use Rattle.std.proofs.Common.{◌≡◌, ◌∙◌, length, sym, ap}
+use Rattle.emu_machine.specs.declared.results.Results.{Results}
 use Rattle.emu_machine.specs.State.{frame_slots}
-use Rattle.cycle_sim.specs.Standing.{CanRun}
-use Rattle.cycle_sim.specs.Tables.{state}
-use Rattle.cycle_sim.proofs.SlotSteps.{frame_actions, same_step, one_slot}
+use Rattle.cycle_sim.specs.Tables.{Running}
+use Rattle.cycle_sim.proofs.SlotSteps.{slots_there}
 use Rattle.cycle_sim.proofs.machine.Machine.frame.Goals as goal
 
-pub step-requires : goal.step-requires
-step-requires c =
-    frame_actions c.slots.self.results c.self.inside.results.now (length c.slots.self.tables.outside) c.args.group.place c.slots.t c.actions_of.result.now
-    c.slots.invariant.runs c.slots.invariant.results c.actions_of.ensures
-
-pub slots-preserved : goal.slots-preserved
-slots-preserved c =
-    let low : c.slots.t < length (frame_slots c.self.inside.results.now c.args.group.place) =
-    omega (arith, c.slots-test.true, ap (λ (slots : List _). length slots) c.slots_of-t-end.ensures) in
-    record {
-      results = c.step.ensures.results ∙ c.slots.invariant.results;
-      inputs = ap length c.step.ensures.inputs ∙ c.slots.invariant.inputs;
-      runs = subst (λ (o : List Bool). CanRun c.self.inside.results.now (length o)) (sym c.step.ensures.inputs) c.slots.invariant.runs;
-      rest = λ wires.
-          one_slot c.self.inside.results.now wires c.args.group.place c.slots.t low (state c.slots.self) (state c.step.new.self)
-          (same_step c.slots.self.results c.self.inside.results.now wires c.args.group.place c.slots.t c.actions_of.result.now (state c.slots.self) (state c.step.new.self)
-          c.slots.invariant.results c.actions_of.ensures (c.step.ensures.state wires))
-          ∙ c.slots.invariant.rest wires;
-    }
+pub do_slots-requires : goal.do_slots-requires
+do_slots-requires c =
+    let same : c.args.self.now.results ≡ c.self.inside.results.now = sym (ap (λ (v : Running). v.results) c.self.view_is) in
+    slots_there c.present.new.self.results c.args.self.now.results (length c.present.new.self.tables.outside) (length c.args.self.now.tables.outside)
+    c.args.group.place c.slots_of.result.now c.stands.ensures c.present.ensures.results c.present.ensures.inputs
+    (c.slots_of.ensures ∙ ap (λ (r : Results). frame_slots r c.args.group.place) (sym same))
