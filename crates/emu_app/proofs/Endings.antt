@@ -23,14 +23,7 @@ use Rattle.emu_app.specs.Outcomes.{IsOk, IsRejected, OkHolds, RejectedHolds}
 
 accepted_work : (held : Held) (n : CommandWords) (texts : Texts) (schedule : Schedule) (old new : Option (List ℕ)) (command : Command) → n.command ≡ command → AreHeld held n texts → WorkMeans command n.top texts (answer.Accepted schedule) → OkHolds command n old new held
 accepted_work held n texts schedule old new Check is are means =
-    record {
-      texts = texts;
-      are_held = are;
-      judged = means.judged;
-      stand = means.stand;
-      accepted = means.accepted;
-      headline = means.headline;
-    }
+    record { texts = texts; are_held = are; schedule = schedule; accepts = means }
 accepted_work held n texts schedule old new Settle is are means = absurd means
 accepted_work held n texts schedule old new Replay is are means = absurd means
 
@@ -39,24 +32,9 @@ accepted_held None n schedule old new means = tt
 accepted_held (Some held) n schedule old new means = accepted_work held n means.texts schedule old new n.command refl means.are_held means.means
 
 rejected_work : (held : Held) (n : CommandWords) (texts : Texts) (command : Command) → n.command ≡ command → AreHeld held n texts → WorkMeans command n.top texts answer.Rejected → RejectedHolds command n held
-rejected_work held n texts Check is are means =
-    record {
-      texts = texts;
-      are_held = are;
-      judged = means.judged;
-      stand = means.stand;
-      rejected = means.rejected;
-    }
+rejected_work held n texts Check is are means = record { texts = texts; are_held = are; rejects = means }
 rejected_work held n texts Settle is are means = absurd means
-rejected_work held n texts Replay is are means =
-    record {
-      texts = texts;
-      are_held = are;
-      judged = means.judged;
-      recording = means.recording;
-      stand = means.stand;
-      rejected = means.rejected;
-    }
+rejected_work held n texts Replay is are means = record { texts = texts; are_held = are; rejects = means }
 
 rejected_held : (told : Option Held) (n : CommandWords) → IfSome told (λ held. HeldMeans held n answer.Rejected) → IfSome told (RejectedHolds n.command n)
 rejected_held None n means = tt

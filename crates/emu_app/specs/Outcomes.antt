@@ -2,45 +2,34 @@
 -- The rules are told in docs/FORMATS.md, "Commands".
 use Rattle.std.specs.Prelude.{ℕ, List, Option, IfSome}
 use Rattle.emu_io.specs.Files.{Held}
-use Rattle.emu_machine.specs.Acceptance.{Case, IsAccepted}
-use Rattle.emu_machine.specs.Headline.{Headline}
+use Rattle.emu_machine.specs.declared.schedule.Schedule.{Schedule}
 use Rattle.emu_app.specs.declared.command.Command.{Command}
 use Rattle.emu_app.specs.declared.command.Command.TheVariants.{Check, Settle, Replay}
 use Rattle.emu_app.specs.Command.{CommandWords, IsCommand}
 use Rattle.emu_app.specs.Fetching.{Texts, AreHeld}
-use Rattle.emu_app.specs.declared.recording.Recording.{Recording}
-use Rattle.emu_app.specs.Reading.{StandForOne, StandForOneReplay}
-use Rattle.emu_app.specs.Runs.{CanReplay}
 use Rattle.emu_app.specs.declared.answer.Answer.TheVariants as answer
-use Rattle.emu_app.specs.Answers.{CanAnswer, HeldTrace, WritesTrace}
+use Rattle.emu_app.specs.Answers.{Accepts, CanAnswer, HeldTrace, Rejects, RejectsReplay, WritesTrace}
 
--- the texts that are held under the names stand for one case alone, the rules A1 to A12 hold for it, and so
--- the machine agrees with the design after every event, for every opening and every list of events
+-- the texts that are held under the names are accepted: they stand for one case alone, the rules A1 to A12 hold
+-- for it, and so the machine agrees with the design after every event, for every opening and every list of events
 pub record HoldsAccepted (n : CommandWords) (held : Held) : Type 0 where
   pub texts : Texts
   pub are_held : AreHeld held n texts
-  pub judged : Case
-  pub stand : StandForOne n.top texts judged
-  pub accepted : IsAccepted judged
-  pub headline : Headline judged
+  pub schedule : Schedule
+  pub accepts : Accepts n.top texts schedule
 
 -- the texts that are held under the names stand for one case alone, and one of the rules fails for it
 pub record HoldsRejected (n : CommandWords) (held : Held) : Type 0 where
   pub texts : Texts
   pub are_held : AreHeld held n texts
-  pub judged : Case
-  pub stand : StandForOne n.top texts judged
-  pub rejected : IsAccepted judged → ⊥
+  pub rejects : Rejects n.top texts
 
 -- the texts that are held under the names stand for one case and recording alone, and one of the rules A1 to
 -- A9 fails for the case
 pub record HoldsUnfit (n : CommandWords) (held : Held) : Type 0 where
   pub texts : Texts
   pub are_held : AreHeld held n texts
-  pub judged : Case
-  pub recording : Recording
-  pub stand : StandForOneReplay n.top texts judged recording
-  pub rejected : CanReplay judged → ⊥
+  pub rejects : RejectsReplay n.top texts
 
 -- what Ok says by the command: results are accepted, or the trace of what is held is written
 abbrev pub OkHolds : Command → CommandWords → Option (List ℕ) → Option (List ℕ) → Held → Type 0
