@@ -1,4 +1,8 @@
-//! Commands over texts in memory: how each ends, and what it prints, to the byte.
+//! Commands over files and a sink in memory: fetches and puts that fail, a text beyond its limit, texts
+//! cut at every byte; how each ends, and what it prints, to the byte.
+//!
+//! What a command answers to whole texts is not asked here but for one case: the program `emu_cases` runs
+//! a table of such commands.
 
 use crate::{Status, run};
 use emu_io::{List, MemFiles, MemSink, NoMemory, Text, Word};
@@ -29,11 +33,11 @@ const EVENTS: &[u8] = b"* a=1\n* a=0\n";
 /// The command that checks the inverter.
 const CHECK: &[u8] = b"check t d.v c.json g.json b.json n.v s.json m.json";
 
-/// The commands that run events on the inverter and on its results.
-const RUNS: [&[u8]; 2] = [
-    b"settle t d.v c.json g.json o.json e.txt",
-    b"replay t d.v c.json g.json b.json n.v s.json m.json o.json e.txt",
-];
+/// The command that runs events on the inverter.
+const SETTLE: &[u8] = b"settle t d.v c.json g.json o.json e.txt";
+
+/// The command that runs events on its results.
+const REPLAY: &[u8] = b"replay t d.v c.json g.json b.json n.v s.json m.json o.json e.txt";
 
 /// The words of a line, which has a space between each two.
 fn words(alloc: Global, line: &[u8]) -> Result<List<Word>, NoMemory> {
@@ -101,124 +105,6 @@ fn the_inverter_is_accepted(rt: HostRuntime) -> Result<(), Fail> {
 }
 
 #[test]
-fn words_of_no_command_are_told(rt: HostRuntime) -> Result<(), Fail> {
-    let ended = end_of(rt.alloc(), b"check t", &mut inverter(rt.alloc(), &[])?, &[])?;
-    assert_eq!(rt;
-        ended.out.written(),
-        b"usage: emu check|compile|make|replay|settle\n".as_slice()
-    );
-    assert_eq!(rt; ended.status, Status::Usage);
-    Ok(())
-}
-
-#[test]
-fn a_text_that_is_not_held_is_named(rt: HostRuntime) -> Result<(), Fail> {
-    let mut files = MemFiles::new(rt.alloc(), &[])?;
-    hold(rt.alloc(), &mut files, b"c.json", CELLS)?;
-    let ended = end_of(rt.alloc(), CHECK, &mut files, &[])?;
-    assert_eq!(rt; ended.out.written(), b"read fault d.v\n".as_slice());
-    assert_eq!(rt; ended.status, Status::ReadFault);
-    Ok(())
-}
-
-#[test]
-fn a_register_that_is_not_kept_is_rejected(rt: HostRuntime) -> Result<(), Fail> {
-    let map =
-        b"{\"chips\":[{\"memories\":[],\"nets\":[[\"net\",2],[\"net\",3]],\"registers\":[false]}],\"outputs\":[[0,1]],\"version\":1}\n";
-    let ended = end_with(rt.alloc(), b"m.json", map)?;
-    assert_eq!(rt; ended.out.written(), b"rejected\n".as_slice());
-    assert_eq!(rt; ended.status, Status::Rejected);
-    Ok(())
-}
-
-#[test]
-fn the_first_text_that_is_not_of_its_form_is_named(rt: HostRuntime) -> Result<(), Fail> {
-    let and = b"module t(a,y); input a; output y; and(y,a,a); endmodule\n";
-    for (name, bytes, printed) in [
-        (
-            b"d.v".as_slice(),
-            and.as_slice(),
-            b"refused design NotYet\n".as_slice(),
-        ),
-        (b"g.json", b"{}", b"refused groups NotYet\n"),
-        (b"b.json", b"{}", b"refused board NotYet\n"),
-        (b"n.v", b"module", b"refused netlist NotYet\n"),
-        (b"s.json", b"{}", b"refused schedule NotYet\n"),
-        (b"m.json", b"{}", b"refused map NotYet\n"),
-    ] {
-        let ended = end_with(rt.alloc(), name, bytes)?;
-        assert_eq!(rt; ended.out.written(), printed);
-        assert_eq!(rt; ended.status, Status::Refused);
-    }
-    Ok(())
-}
-
-#[test]
-fn faults_of_the_design_are_told_with_their_bytes(rt: HostRuntime) -> Result<(), Fail> {
-    for (bytes, printed) in [
-        (
-            b"module t(y); output y; buf(y,1'bx); endmodule".as_slice(),
-            b"refused design UnknownDigit 32\n".as_slice(),
-        ),
-        (b"module t; /* ab", b"refused design OpenComment 10\n"),
-        (b"module t; (* ab", b"refused design OpenAttribute 10\n"),
-        (b"module t; 4294967296", b"refused design BadNumber 10\n"),
-        (b"module t; #", b"refused design BadByte 10\n"),
-        (b"module t; `define", b"refused design Directive 10\n"),
-        (
-            b"module t; reg r; endmodule",
-            b"refused design Unsupported 10\n",
-        ),
-        (
-            b"module t; wire \\a b; endmodule",
-            b"refused design Expected 18\n",
-        ),
-        (b"module t;", b"refused design Expected 9\n"),
-        (
-            b"module t;assign y={{{{{{{{{{{{{{{{{{{{{{{{{{{{{{{{{{{{{{{{{{{{{{{{{{{{{{{{{{{{{{{{{",
-            b"refused design TooDeep 82\n",
-        ),
-    ] {
-        let ended = end_with(rt.alloc(), b"d.v", bytes)?;
-        assert_eq!(rt; ended.out.written(), printed);
-        assert_eq!(rt; ended.status, Status::Refused);
-    }
-    Ok(())
-}
-
-#[test]
-fn a_circle_of_gates_is_told_by_its_names(rt: HostRuntime) -> Result<(), Fail> {
-    let design = b"module t(y); output y; wire x; not(x,y); not(y,x); endmodule\n";
-    for line in [CHECK, RUNS[0], RUNS[1]] {
-        let mut files = inverter(rt.alloc(), &[])?;
-        hold(rt.alloc(), &mut files, b"d.v", design)?;
-        let ended = end_of(rt.alloc(), line, &mut files, &[])?;
-        assert_eq!(rt; ended.out.written(), b"refused rank Cycle y x\n".as_slice());
-        assert_eq!(rt; ended.status, Status::Refused);
-    }
-    Ok(())
-}
-
-#[test]
-fn each_fetch_that_fails_is_named(rt: HostRuntime) -> Result<(), Fail> {
-    for (failing, printed) in [
-        (0, b"read fault d.v\n".as_slice()),
-        (1, b"read fault c.json\n"),
-        (2, b"read fault g.json\n"),
-        (3, b"read fault b.json\n"),
-        (4, b"read fault n.v\n"),
-        (5, b"read fault s.json\n"),
-        (6, b"read fault m.json\n"),
-    ] {
-        let mut files = inverter(rt.alloc(), &[failing])?;
-        let ended = end_of(rt.alloc(), CHECK, &mut files, &[])?;
-        assert_eq!(rt; ended.out.written(), printed);
-        assert_eq!(rt; ended.status, Status::ReadFault);
-    }
-    Ok(())
-}
-
-#[test]
 fn results_that_break_off_are_refused(rt: HostRuntime) -> Result<(), Fail> {
     for (name, text) in [
         (b"n.v".as_slice(), NETLIST),
@@ -251,62 +137,39 @@ fn a_design_beyond_its_limit_is_refused(rt: HostRuntime) -> Result<(), Fail> {
 }
 
 #[test]
-fn a_put_that_fails_is_a_write_fault(rt: HostRuntime) -> Result<(), Fail> {
-    let ended = end_of(rt.alloc(), CHECK, &mut inverter(rt.alloc(), &[])?, &[0])?;
-    assert_eq!(rt; ended.out.written(), b"accepted\n".as_slice());
-    assert_eq!(rt; ended.status, Status::WriteFault);
-    Ok(())
-}
-
-#[test]
-fn the_inverter_and_its_results_have_one_trace(rt: HostRuntime) -> Result<(), Fail> {
-    for line in RUNS {
-        let ended = end_of(rt.alloc(), line, &mut inverter(rt.alloc(), &[])?, &[])?;
-        assert_eq!(rt; ended.out.written(), b"1 y=0\n2 y=1\n".as_slice());
-        assert_eq!(rt; ended.status, Status::Ok);
-    }
-    Ok(())
-}
-
-#[test]
-fn results_that_take_no_input_have_a_trace_of_their_own(rt: HostRuntime) -> Result<(), Fail> {
-    let schedule = b"{\"frames\":[{\"group\":\"*\",\"slots\":[[]]}],\"version\":1}\n";
-    for (line, printed, status) in [
-        (CHECK, b"rejected\n".as_slice(), Status::Rejected),
-        (RUNS[0], b"1 y=0\n2 y=1\n", Status::Ok),
-        (RUNS[1], b"1 y=1\n2 y=1\n", Status::Ok),
-    ] {
-        let mut files = inverter(rt.alloc(), &[])?;
-        hold(rt.alloc(), &mut files, b"s.json", schedule)?;
-        let ended = end_of(rt.alloc(), line, &mut files, &[])?;
-        assert_eq!(rt; ended.out.written(), printed);
-        assert_eq!(rt; ended.status, status);
-    }
-    Ok(())
-}
-
-#[test]
-fn a_trace_stops_in_the_line_that_could_not_be_put(rt: HostRuntime) -> Result<(), Fail> {
-    for line in RUNS {
-        let ended = end_of(rt.alloc(), line, &mut inverter(rt.alloc(), &[])?, &[1])?;
-        assert_eq!(rt; ended.out.written(), b"1 y=0\n2 y".as_slice());
-        assert_eq!(rt; ended.status, Status::WriteFault);
-    }
-    Ok(())
-}
-
-#[test]
-fn each_fetch_of_a_recording_that_fails_is_named(rt: HostRuntime) -> Result<(), Fail> {
+fn each_fetch_that_fails_is_named(rt: HostRuntime) -> Result<(), Fail> {
     for (line, failing, printed) in [
-        (RUNS[0], 3, b"read fault o.json\n".as_slice()),
-        (RUNS[0], 4, b"read fault e.txt\n"),
-        (RUNS[1], 7, b"read fault o.json\n"),
-        (RUNS[1], 8, b"read fault e.txt\n"),
+        (CHECK, 0, b"read fault d.v\n".as_slice()),
+        (CHECK, 1, b"read fault c.json\n"),
+        (CHECK, 2, b"read fault g.json\n"),
+        (CHECK, 3, b"read fault b.json\n"),
+        (CHECK, 4, b"read fault n.v\n"),
+        (CHECK, 5, b"read fault s.json\n"),
+        (CHECK, 6, b"read fault m.json\n"),
+        (SETTLE, 3, b"read fault o.json\n"),
+        (SETTLE, 4, b"read fault e.txt\n"),
+        (REPLAY, 7, b"read fault o.json\n"),
+        (REPLAY, 8, b"read fault e.txt\n"),
     ] {
         let mut files = inverter(rt.alloc(), &[failing])?;
         let ended = end_of(rt.alloc(), line, &mut files, &[])?;
         assert_eq!(rt; ended.out.written(), printed);
         assert_eq!(rt; ended.status, Status::ReadFault);
+    }
+    Ok(())
+}
+
+#[test]
+fn a_put_that_fails_is_a_write_fault(rt: HostRuntime) -> Result<(), Fail> {
+    for (line, failing, written) in [
+        (CHECK, 0, b"accepted\n".as_slice()),
+        (SETTLE, 1, b"1 y=0\n2 y"),
+        (REPLAY, 1, b"1 y=0\n2 y"),
+    ] {
+        let mut files = inverter(rt.alloc(), &[])?;
+        let ended = end_of(rt.alloc(), line, &mut files, &[failing])?;
+        assert_eq!(rt; ended.out.written(), written);
+        assert_eq!(rt; ended.status, Status::WriteFault);
     }
     Ok(())
 }
