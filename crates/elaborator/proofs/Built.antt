@@ -21,7 +21,7 @@ good : (source : List ℕ) (tokens : List Token) (tree : Source) (top : Name) (p
 good source tokens tree top p s =
     let text = text_of source tokens in
     subst AreGood (sym s.parts)
-    (parts_are_good text top s.header s.sketch (net_names text (is_implicit tokens) s.header s.sketch) (map text (own_names s.sketch.primitives)) (sketch_plain tokens s.only.items s.sketch s.items_read))
+    (parts_are_good text top s.lists.header s.lists.sketch (net_names text (is_implicit tokens) s.lists.header s.lists.sketch) (map text (own_names s.lists.sketch.primitives)) (sketch_plain tokens s.listed.only.items s.lists.sketch s.listed.items_read))
 
 pub built : (source : List ℕ) (tokens : List Token) (tree : Source) (top : Name) (p d : Parts) → StandsFor source tokens tree top p → IsWithin p → d ≡ p → IsSound p → Describes source tokens tree top d
 built source tokens tree top p d s w same sound =

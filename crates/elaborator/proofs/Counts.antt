@@ -84,4 +84,4 @@ module _ (text : ℕ → Name) (implicit : ℕ → Bool) (top : Name) (header : 
 pub countable : (source : List ℕ) (tokens : List Token) (tree : Source) (top : Name) (p : Parts) → StandsFor source tokens tree top p → IsWithin p → IsCountable p
 countable source tokens tree top p s w =
     subst IsCountable (sym s.parts)
-    (counted_parts (text_of source tokens) (is_implicit tokens) top s.header s.sketch s.named.ports.once (subst IsWithin s.parts w))
+    (counted_parts (text_of source tokens) (is_implicit tokens) top s.lists.header s.lists.sketch s.named.ports.once (subst IsWithin s.parts w))

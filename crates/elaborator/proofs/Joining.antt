@@ -1,9 +1,8 @@
 -- The parts of a module from the tables of its names.
 use Rattle.std.proofs.Common.{◌≡◌, ◌≤◌, ℕ, Bool, true, ◌&&◌, cond, nat_le, List, [], ◌∷◌, ◌++◌, Option, Some, None, ap, arith, length, map, refl, subst, sym, ◌∙◌, append_assoc}
-use Rattle.std.specs.Prelude.{filter}
+use Rattle.std.specs.Prelude.{codes, filter}
 use Rattle.std.specs.List.{list_all}
 use Rattle.std.proofs.lemmas.List.{length-map, map-append}
-use Rattle.elaborator.specs.GateParts.{top_name}
 use Rattle.design_core.specs.Limits.{IsWithin, inputs_within, most_inputs}
 use Rattle.design_core.specs.declared.operation.Op.{Op}
 use Rattle.design_core.specs.declared.operation.Op.TheVariants.{Table}
@@ -12,7 +11,8 @@ use Rattle.design_core.specs.declared.parts.Port.{Port}
 use Rattle.elaborator.specs.declared.gate_sketch.Primitive.{Primitive}
 use Rattle.elaborator.specs.declared.gate_sketch.Sketch.{Sketch}
 use Rattle.elaborator.specs.GateNames.{Name, first_uses, is_among, with_names}
-use Rattle.elaborator.specs.GateParts.{AreNamed, element_of, net_names, own_names, parts_of, parts_with, port_of, ports_among, terminals}
+use Rattle.elaborator.specs.GateDesign.{numbers_of, parts_from}
+use Rattle.elaborator.specs.GateParts.{as_element, element_of, gate_of, net_names, own_names, own_scope, parts_of, parts_with, path_of, port_of, ports_among, terminals, top_name}
 use Rattle.elaborator.proofs.Uses.{first_uses-all, first_uses-append, is_among-first_uses}
 
 filter-same : {X : Type 0} (p q : X → Bool) → ((x : X) → p x ≡ q x) → (xs : List X) → filter p xs ≡ filter q xs
@@ -62,10 +62,22 @@ few_names (p ∷ ps) = go p.name (few_names ps)
     go None less = omega arith
     go (Some name) less = omega arith
 
--- what holds of the parts that are made from right tables
-pub joined_parts : (text : ℕ → Name) (implicit : ℕ → Bool) (top : Name) (header : List ℕ) (s : Sketch) (nets own : List Name) (p : Parts) → AreNamed text implicit header s → nets ≡ net_names text implicit header s → own ≡ map text (own_names s.primitives) → length (net_names text implicit header s) ≤ 399998 → length s.primitives ≤ 200000 → Some (parts_with text top header s nets own) ≡ Some p
-    → AreNamed text implicit header s × (p ≡ parts_of text implicit top header s) × IsWithin p
-joined_parts text implicit top header s nets own p named nets-is own-is few small made =
-    let same : parts_with text top header s nets own ≡ p = cc in
-    let is : p ≡ parts_of text implicit top header s = sym same ∙ (λ i. parts_with text top header s (nets-is i) (own-is i)) in
-    (named, is, subst IsWithin (sym is) (within_limits text top header s (net_names text implicit header s) (map text (own_names s.primitives)) few small))
+-- gates with numbers are the elements that their primitives stand for
+as_elements : (text : ℕ → Name) (nets : List Name) (ps : List Primitive) → map as_element (map (gate_of text nets) ps) ≡ map (element_of text nets) ps
+as_elements text nets [] = refl
+as_elements text nets (p ∷ ps) = ap (λ es. element_of text nets p ∷ es) (as_elements text nets ps)
+
+-- the parts that are made of the numbers of a module
+pub joined_parts : (text : ℕ → Name) (implicit : ℕ → Bool) (top : Name) (header : List ℕ) (s : Sketch) → parts_from top (numbers_of text implicit header s) ≡ parts_of text implicit top header s
+joined_parts text implicit top header s =
+    let nets : List Name = net_names text implicit header s in
+    let own : List Name = map text (own_names s.primitives) in
+    λ i. record {
+      net_names = top_name (codes "1'b0") ∷ top_name (codes "1'b1") ∷ map top_name nets;
+      scopes = record { parent = None; name = top } ∷ map own_scope own;
+      elements = as_elements text nets s.primitives i;
+      paths = map (λ p. path_of text own p.name) s.primitives;
+      memories = [];
+      inputs = ports_among nets (map text header) (map text s.inputs);
+      outputs = ports_among nets (map text header) (map text s.outputs);
+    }

@@ -10,4 +10,5 @@ pub mod Places
 pub mod PlainGates
 pub mod Refusals
 pub mod Sketches
+pub mod Stages
 pub mod Uses

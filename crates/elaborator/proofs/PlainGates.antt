@@ -254,13 +254,15 @@ output_plain nets names p d empty outputs-are all n here =
 pub plain_design : (source : List ℕ) (tokens : List Token) (tree : Source) (top : Name) (p : Parts) → Describes source tokens tree top p → IsPlain p
 plain_design source tokens tree top p d =
     let s = d.stands in
+    let header : List ℕ = s.lists.header in
+    let sketch : Sketch = s.lists.sketch in
     let text = text_of source tokens in
     let implicit = is_implicit tokens in
-    let nets : List Name = net_names text implicit s.header s.sketch in
+    let nets : List Name = net_names text implicit header sketch in
     let empty : p.memories ≡ [] = ap (λ (q : Parts). q.memories) s.parts in
     record {
-      elements = element_plain text nets s.sketch p d.design empty (ap (λ (q : Parts). q.elements) s.parts) s.named.terminals_are_nets (sketch_plain tokens s.only.items s.sketch s.items_read);
+      elements = element_plain text nets sketch p d.design empty (ap (λ (q : Parts). q.elements) s.parts) s.named.terminals_are_nets (sketch_plain tokens s.listed.only.items sketch s.listed.items_read);
       memories = empty;
-      outputs = output_plain nets (filter (is_among (map text s.sketch.outputs)) (map text s.header)) p d.design empty (ap (λ (q : Parts). q.outputs) s.parts)
-          (all_kept (is_among nets) (is_among (map text s.sketch.outputs)) (map text s.header) (header_nets text implicit s.header s.sketch));
+      outputs = output_plain nets (filter (is_among (map text sketch.outputs)) (map text header)) p d.design empty (ap (λ (q : Parts). q.outputs) s.parts)
+          (all_kept (is_among nets) (is_among (map text sketch.outputs)) (map text header) (header_nets text implicit header sketch));
     }

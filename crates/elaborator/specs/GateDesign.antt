@@ -1,6 +1,6 @@
 -- Which trees stand for which parts and designs: one module of `buf` and `not` gates.
 -- The rule is told in docs/FORMATS.md, "Flattening".
-use Rattle.std.specs.Prelude.{◌≡◌, ◌<◌, ◌≤◌, ℕ, Bool, IsTrue, Some, List, [], ◌∷◌, length, map, Result, Ok, Err}
+use Rattle.std.specs.Prelude.{◌≡◌, ◌<◌, ◌≤◌, ℕ, Bool, IsTrue, Some, None, List, [], ◌∷◌, codes, length, map, Result, Ok, Err}
 use Rattle.verilog_lex.specs.declared.token.Token.{Token}
 use Rattle.verilog_tree.specs.declared.source.Module.{Module}
 use Rattle.verilog_tree.specs.declared.source.Source.{Source}
@@ -10,24 +10,29 @@ use Rattle.design_core.specs.Plain.{IsPlain}
 use Rattle.design_core.specs.declared.parts.Parts.{Parts}
 use Rattle.elaborator.specs.declared.fault.ElabFault.{ElabFault}
 use Rattle.elaborator.specs.declared.fault.ElabFault.TheVariants.{NotYet, NoMemory}
+use Rattle.elaborator.specs.declared.gate_design.Numbers.{Numbers}
 use Rattle.elaborator.specs.declared.gate_design.Tables.{Tables}
+use Rattle.elaborator.specs.declared.gate_sketch.Lists.{Lists}
 use Rattle.elaborator.specs.declared.gate_sketch.Sketch.{Sketch}
 use Rattle.elaborator.specs.GateNames.{AreDifferent, Name, is_implicit, none_among, text_of}
-use Rattle.elaborator.specs.GateParts.{AreNamed, net_names, own_names, parts_of}
+use Rattle.elaborator.specs.GateParts.{AreNamed, as_element, gate_of, net_names, own_names, own_scope, parts_of, path_of, ports_among, top_name}
 use Rattle.elaborator.specs.GateSketch.{bare_port, each, sketch_of}
 
 -- The tree is one module that has the name of the top; its header is of bare names, its items are of directions, wires
--- and gates alone; its names are right; and these are its parts.
-pub record StandsFor (source : List ℕ) (tokens : List Token) (tree : Source) (top : Name) (p : Parts) : Type 0 where
+-- and gates alone; and this is what they list.
+pub record AreListed (source : List ℕ) (tokens : List Token) (tree : Source) (top : Name) (lists : Lists) : Type 0 where
   pub only : Module
-  pub header : List ℕ
-  pub sketch : Sketch
   pub one_module : tree.modules ≡ only ∷ []
   pub top_named : text_of source tokens only.name ≡ top
-  pub header_read : each bare_port only.ports ≡ Some header
-  pub items_read : sketch_of tokens only.items ≡ Some sketch
-  pub named : AreNamed (text_of source tokens) (is_implicit tokens) header sketch
-  pub parts : p ≡ parts_of (text_of source tokens) (is_implicit tokens) top header sketch
+  pub header_read : each bare_port only.ports ≡ Some lists.header
+  pub items_read : sketch_of tokens only.items ≡ Some lists.sketch
+
+-- the tree lists this, its names are right, and these are its parts
+pub record StandsFor (source : List ℕ) (tokens : List Token) (tree : Source) (top : Name) (p : Parts) : Type 0 where
+  pub lists : Lists
+  pub listed : AreListed source tokens tree top lists
+  pub named : AreNamed (text_of source tokens) (is_implicit tokens) lists.header lists.sketch
+  pub parts : p ≡ parts_of (text_of source tokens) (is_implicit tokens) top lists.header lists.sketch
 
 -- a tree describes a design: it stands for these parts, they are within the limits, and they make a design
 pub record Describes (source : List ℕ) (tokens : List Token) (tree : Source) (top : Name) (p : Parts) : Type 0 where
@@ -92,10 +97,48 @@ TablesAnswers text implicit header s (Err NotYet) =
     AreNamed text implicit header s → length (net_names text implicit header s) ≤ 399998 → ⊥
 TablesAnswers text implicit header s (Err NoMemory) = Unit {0}
 
--- the parts that the lists of a module stand for
-abbrev pub SketchAnswers : (ℕ → Name) → (ℕ → Bool) → Name → List ℕ → Sketch → Result Parts ElabFault → Type 0
-SketchAnswers text implicit top header s (Ok p) =
-    AreNamed text implicit header s × (p ≡ parts_of text implicit top header s) × IsWithin p
-SketchAnswers text implicit top header s (Err NotYet) =
-    AreNamed text implicit header s → IsWithin (parts_of text implicit top header s) → ⊥
-SketchAnswers text implicit top header s (Err NoMemory) = Unit {0}
+-- what the tree lists, or, exactly where it lists nothing, that it is not read yet
+abbrev pub ListsAnswers : List ℕ → List Token → Source → Name → Result Lists ElabFault → Type 0
+ListsAnswers source tokens tree top (Ok lists) = AreListed source tokens tree top lists
+ListsAnswers source tokens tree top (Err NotYet) = (lists : Lists) → AreListed source tokens tree top lists → ⊥
+ListsAnswers source tokens tree top (Err NoMemory) = Unit {0}
+
+-- the primitives and ports of a module with the numbers of their nets, where the tables of its names are these
+abbrev pub numbers_by : (ℕ → Name) → List ℕ → Sketch → Tables → Numbers
+numbers_by text header s tables =
+    record {
+      tables = tables;
+      gates = map (gate_of text tables.nets) s.primitives;
+      paths = map (λ p. path_of text tables.own p.name) s.primitives;
+      inputs = ports_among tables.nets (map text header) (map text s.inputs);
+      outputs = ports_among tables.nets (map text header) (map text s.outputs);
+    }
+
+abbrev pub numbers_of : (ℕ → Name) → (ℕ → Bool) → List ℕ → Sketch → Numbers
+numbers_of text implicit header s =
+    numbers_by text header s (record { nets = net_names text implicit header s; own = map text (own_names s.primitives) })
+
+-- a module has no more nets and primitives than a design may have
+pub record AreFew (text : ℕ → Name) (implicit : ℕ → Bool) (header : List ℕ) (s : Sketch) : Type 0 where
+  pub nets : length (net_names text implicit header s) ≤ 399998
+  pub primitives : length s.primitives ≤ 200000
+
+-- the numbers of a module whose names are right, where they are not too many
+abbrev pub NumbersAnswers : (ℕ → Name) → (ℕ → Bool) → List ℕ → Sketch → Result Numbers ElabFault → Type 0
+NumbersAnswers text implicit header s (Ok numbers) =
+    AreNamed text implicit header s × AreFew text implicit header s × (numbers ≡ numbers_of text implicit header s)
+NumbersAnswers text implicit header s (Err NotYet) = AreNamed text implicit header s → AreFew text implicit header s → ⊥
+NumbersAnswers text implicit header s (Err NoMemory) = Unit {0}
+
+-- the parts that these numbers make
+abbrev pub parts_from : Name → Numbers → Parts
+parts_from top numbers =
+    record {
+      net_names = top_name (codes "1'b0") ∷ top_name (codes "1'b1") ∷ map top_name numbers.tables.nets;
+      scopes = record { parent = None; name = top } ∷ map own_scope numbers.tables.own;
+      elements = map as_element numbers.gates;
+      paths = numbers.paths;
+      memories = [];
+      inputs = numbers.inputs;
+      outputs = numbers.outputs;
+    }

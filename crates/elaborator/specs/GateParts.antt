@@ -10,6 +10,7 @@ use Rattle.design_core.specs.declared.parts.NetName.{NetName}
 use Rattle.design_core.specs.declared.parts.Parts.{Parts}
 use Rattle.design_core.specs.declared.parts.Port.{Port}
 use Rattle.design_core.specs.declared.parts.Scope.{Scope}
+use Rattle.elaborator.specs.declared.gate_parts.NumberedGate.{NumberedGate}
 use Rattle.elaborator.specs.declared.gate_sketch.Primitive.{Primitive}
 use Rattle.elaborator.specs.declared.gate_sketch.Sketch.{Sketch}
 use Rattle.elaborator.specs.GateNames.{AreDifferent, Name, all_among, first_uses, is_among, none_among}
@@ -46,6 +47,13 @@ net_of nets name = record { place = option_map_or (λ place. place + 2) (place_a
 -- a primitive is a gate from the net of its second terminal to that of its first
 abbrev pub element_of : (ℕ → Name) → List Name → Primitive → Element
 element_of text nets p = Gate p.op (net_of nets (text p.input) ∷ []) (net_of nets (text p.output))
+
+-- a primitive with the numbers of its nets, and the element that it is
+abbrev pub gate_of : (ℕ → Name) → List Name → Primitive → NumberedGate
+gate_of text nets p = record { op = p.op; output = net_of nets (text p.output); input = net_of nets (text p.input) }
+
+abbrev pub as_element : NumberedGate → Element
+as_element gate = Gate gate.op (gate.input ∷ []) gate.output
 
 -- a port has one net
 abbrev pub port_of : List Name → Name → Port

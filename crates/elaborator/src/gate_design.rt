@@ -1,9 +1,9 @@
 //! Reading a module of `buf` and `not` gates from its tree.
 
-ghost use Rattle.std.specs.Prelude.{◌↔◌, ◌≡◌, ◌≤◌, Some, filter, length, map, IsTrue};
-ghost use Rattle.elaborator.specs.GateDesign.{Answers, GateDesignsArePlain, Judges, NetTable, OwnTable, PartsAnswers, SketchAnswers, TablesAnswers, TreesTellDesignsApart};
+ghost use Rattle.std.specs.Prelude.{◌↔◌, ◌≡◌, ◌≤◌, Some, filter, length, map, IfOk, IsTrue};
+ghost use Rattle.elaborator.specs.GateDesign.{Answers, GateDesignsArePlain, Judges, ListsAnswers, NetTable, NumbersAnswers, OwnTable, PartsAnswers, TablesAnswers, TreesTellDesignsApart, numbers_by, parts_from};
 ghost use Rattle.elaborator.specs.GateNames.{AreDifferent, all_among, is_implicit, text_of};
-ghost use Rattle.elaborator.specs.GateParts.{ArePorts, net_names, own_names, parts_with, ports_among, terminals};
+ghost use Rattle.elaborator.specs.GateParts.{ArePorts, net_names, own_names, ports_among, terminals};
 ghost use Rattle.elaborator.specs.GateSketch.{Reads};
 
 use crate::fault::ElabFault;
@@ -11,12 +11,12 @@ use crate::gate_names::{
     add_names, are_all_among, are_declared, are_none_among, distinct_names, text_at,
 };
 use crate::gate_parts::{
-    ELEMENT_LIMIT, NAME_LIMIT, elements, implicit_places, net_list, own_names, paths, ports_among,
-    scope_list, terminals,
+    ELEMENT_LIMIT, NAME_LIMIT, NumberedGate, elements, gate_list, implicit_places, net_list,
+    own_names, paths, ports_among, scope_list, terminals,
 };
-use crate::gate_sketch::{Primitive, Sketch, append, header_of, sketch_of};
+use crate::gate_sketch::{Lists, Primitive, Sketch, append, header_of, sketch_of};
 use design_core::{Design, DesignFault, Parts, Port};
-use emu_io::List;
+use emu_io::{List, NoMemory};
 use id_arena::Names;
 use std::alloc::Global;
 use verilog_lex::Tokens;
@@ -27,6 +27,17 @@ use verilog_tree::Source;
 struct Tables {
     nets: Names,
     own: Names,
+}
+
+/// What a module says once its nets have numbers: its parts are made of this, and no token is read
+/// for them.
+#[derive(Drop)]
+struct Numbers {
+    tables: Tables,
+    gates: List<NumberedGate>,
+    paths: List<u32>,
+    inputs: List<Port>,
+    outputs: List<Port>,
 }
 
 /// Judges the header and the directions.
@@ -144,30 +155,26 @@ fn ports_given(
     Ok(ports)
 }
 
-/// The parts, with these tables of the names of nets and primitives.
-fn parts_with(
+/// The primitives and ports with the numbers of their nets, by these tables.
+fn numbers_by(
     alloc: Global,
     source: &[u8],
     tokens: &Tokens,
-    top: &[u8],
     header: &[u32],
     sketch: &Sketch,
-    tables: &Tables,
-) -> Result<Parts, ElabFault>
-    requires nets { length tables.now.nets ≤ 399998 }
+    tables: Tables,
+) -> Result<Numbers, ElabFault>
+    requires nets { length tables.nets ≤ 399998 }
     requires few { length sketch.now.primitives ≤ 200000 }
-    requires own { tables.now.own ≡ map (text_of source.now tokens.now) (own_names sketch.now.primitives) }
-    requires different { AreDifferent tables.now.own }
-    ensures { Reads (Some (parts_with (text_of source.now tokens.now) top.now header.now sketch.now tables.now.nets tables.now.own)) result }
+    requires own { tables.own ≡ map (text_of source.now tokens.now) (own_names sketch.now.primitives) }
+    requires different { AreDifferent tables.own }
+    ensures { Reads (Some (numbers_by (text_of source.now tokens.now) header.now sketch.now tables)) result }
 {
     let primitives = sketch.primitives.as_slice();
     let nets = &tables.nets;
-    Ok(Parts {
-        net_names: net_list(alloc, nets)?,
-        scopes: scope_list(alloc, top, &tables.own)?,
-        elements: elements(alloc, source, tokens, nets, primitives)?,
+    Ok(Numbers {
+        gates: gate_list(alloc, source, tokens, nets, primitives)?,
         paths: paths(alloc, primitives)?,
-        memories: List::new(alloc),
         inputs: ports_given(
             alloc,
             source,
@@ -184,6 +191,7 @@ fn parts_with(
             header,
             sketch.outputs.as_slice(),
         )?,
+        tables,
     })
 }
 
@@ -206,34 +214,36 @@ fn name_tables(
     Ok(Tables { nets, own })
 }
 
-/// The parts that the lists of a module stand for, where its names are right.
-fn sketch_parts(
+/// What the lists of a module say in numbers, where its names are right. Takes tokens and lists, so
+/// that their memory is given back before the parts are made.
+fn module_numbers(
     alloc: Global,
     source: &[u8],
-    tokens: &Tokens,
-    top: &[u8],
-    header: &[u32],
-    sketch: &Sketch,
-) -> Result<Parts, ElabFault>
-    ensures { SketchAnswers (text_of source.now tokens.now) (is_implicit tokens.now) top.now header.now sketch.now result }
+    tokens: Tokens,
+    lists: Lists,
+) -> Result<Numbers, ElabFault>
+    ensures { NumbersAnswers (text_of source.now tokens) (is_implicit tokens) lists.header lists.sketch result }
 {
+    let header = lists.header.as_slice();
+    let sketch = &lists.sketch;
     if sketch.primitives.len() > ELEMENT_LIMIT {
         return Err(ElabFault::NotYet);
     }
-    let tables = name_tables(alloc, source, tokens, header, sketch)?;
-    let parts = parts_with(alloc, source, tokens, top, header, sketch, &tables)?;
-    Ok(parts)
+    let tables = name_tables(alloc, source, &tokens, header, sketch)?;
+    let numbers = numbers_by(alloc, source, &tokens, header, sketch, tables)?;
+    Ok(numbers)
 }
 
-/// The parts that a tree stands for.
-pub(crate) fn gate_parts(
+/// What the module of a tree lists, where it is alone and has the name of the top. Takes the tree,
+/// so that its memory is given back before the tables of names are made.
+fn module_lists(
     alloc: Global,
     source: &[u8],
     tokens: &Tokens,
-    tree: &Source,
+    tree: Source,
     top: &[u8],
-) -> Result<Parts, ElabFault>
-    ensures { PartsAnswers source.now tokens.now tree.now top.now result }
+) -> Result<Lists, ElabFault>
+    ensures { ListsAnswers source.now tokens.now tree top.now result }
 {
     let [only] = tree.modules.as_slice() else {
         return Err(ElabFault::NotYet);
@@ -243,7 +253,45 @@ pub(crate) fn gate_parts(
     }
     let header = header_of(alloc, only.ports.as_slice())?;
     let sketch = sketch_of(alloc, tokens, only.items.as_slice())?;
-    let parts = sketch_parts(alloc, source, tokens, top, header.as_slice(), &sketch)?;
+    Ok(Lists { header, sketch })
+}
+
+/// The parts, from the numbers of a module. Each table is given back as soon as its names are copied.
+fn parts_from(alloc: Global, top: &[u8], numbers: Numbers) -> Result<Parts, NoMemory>
+    ensures { IfOk result (λ parts. parts ≡ parts_from top.now numbers) }
+{
+    let Numbers {
+        tables,
+        gates,
+        paths,
+        inputs,
+        outputs,
+    } = numbers;
+    let Tables { nets, own } = tables;
+    Ok(Parts {
+        scopes: scope_list(alloc, top, own)?,
+        net_names: net_list(alloc, nets)?,
+        elements: elements(alloc, gates.as_slice())?,
+        paths,
+        memories: List::new(alloc),
+        inputs,
+        outputs,
+    })
+}
+
+/// The parts that a tree stands for.
+pub(crate) fn gate_parts(
+    alloc: Global,
+    source: &[u8],
+    tokens: Tokens,
+    tree: Source,
+    top: &[u8],
+) -> Result<Parts, ElabFault>
+    ensures { PartsAnswers source.now tokens tree top.now result }
+{
+    let lists = module_lists(alloc, source, &tokens, tree, top)?;
+    let numbers = module_numbers(alloc, source, tokens, lists)?;
+    let parts = parts_from(alloc, top, numbers)?;
     Ok(parts)
 }
 
@@ -260,15 +308,17 @@ fn is_no_memory(fault: &DesignFault) -> bool
 /// The design of one module of `buf` and `not` gates that a tree describes.
 ///
 /// `NotYet` comes exactly where the tree describes no such design. `tokens` are those of `source`,
-/// and `tree` is theirs. Takes one pass over the tree, and a table of its names.
+/// and `tree` is theirs. Takes one pass over the tree, and a table of its names. The tree is given
+/// back as soon as it is passed over, and the tokens as soon as nets have numbers, so that neither is
+/// held while the design is made.
 pub fn read_gates(
     alloc: Global,
     source: &[u8],
-    tokens: &Tokens,
-    tree: &Source,
+    tokens: Tokens,
+    tree: Source,
     top: &[u8],
 ) -> Result<Design, ElabFault>
-    ensures { Answers source.now tokens.now tree.now top.now result }
+    ensures { Answers source.now tokens tree top.now result }
 {
     let parts = gate_parts(alloc, source, tokens, tree, top)?;
     match Design::build(alloc, parts) {

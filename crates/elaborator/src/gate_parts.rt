@@ -3,11 +3,11 @@
 ghost use Rattle.std.specs.Prelude.{[], ◌++◌, ◌≡◌, ◌≤◌, ◌∷◌, Some, None, codes, filter, filter_map, flat_map, length, map, IfOk, OnOk};
 ghost use Rattle.elaborator.specs.GateParts.{top_name};
 ghost use Rattle.elaborator.specs.GateNames.{is_among, is_implicit, text_of};
-ghost use Rattle.elaborator.specs.GateParts.{element_of, net_of, own_names, own_scope, port_of, ports_among, scopes_after, terminals};
+ghost use Rattle.elaborator.specs.GateParts.{as_element, gate_of, net_of, own_names, own_scope, port_of, ports_among, scopes_after, terminals};
 
 use crate::gate_names::{is_among, is_implicit, text_at};
 use crate::gate_sketch::Primitive;
-use design_core::{Element, NetName, Port, Scope};
+use design_core::{Element, NetName, Op, Port, Scope};
 use emu_io::{List, NoMemory, Text};
 use id_arena::{Names, NetId};
 use std::alloc::Global;
@@ -18,6 +18,14 @@ pub(crate) const NAME_LIMIT: u32 = 399_998;
 
 /// The greatest number of elements.
 pub(crate) const ELEMENT_LIMIT: u64 = 200_000;
+
+/// A gate whose nets have numbers.
+#[derive(Clone, Copy, Debug, Drop)]
+pub(crate) struct NumberedGate {
+    op: Op,
+    output: NetId,
+    input: NetId,
+}
 
 /// The terminals of primitives in the order of the text.
 pub(crate) fn terminals(alloc: Global, primitives: &[Primitive]) -> Result<List<u32>, NoMemory>
@@ -81,27 +89,41 @@ fn one_net(alloc: Global, net: NetId) -> Result<List<NetId>, NoMemory>
     Ok(nets)
 }
 
-/// The gates that primitives are.
-pub(crate) fn elements(
+/// The gates that primitives are, with the numbers of their nets.
+pub(crate) fn gate_list(
     alloc: Global,
     source: &[u8],
     tokens: &Tokens,
     nets: &Names,
     primitives: &[Primitive],
-) -> Result<List<Element>, NoMemory>
+) -> Result<List<NumberedGate>, NoMemory>
     requires { length nets.now ≤ 399998 }
-    ensures { IfOk result (λ gates. gates ≡ map (element_of (text_of source.now tokens.now) nets.now) primitives.now) }
+    ensures { IfOk result (λ gates. gates ≡ map (gate_of (text_of source.now tokens.now) nets.now) primitives.now) }
 {
     let mut gates = List::new(alloc);
     'primitives: for primitive in primitives {
-        let input = net_of(nets, text_at(source, tokens, primitive.input));
-        gates.push(Element::Gate {
+        gates.push(NumberedGate {
             op: primitive.op,
-            inputs: one_net(alloc, input)?,
             output: net_of(nets, text_at(source, tokens, primitive.output)),
+            input: net_of(nets, text_at(source, tokens, primitive.input)),
         })?;
     }
     Ok(gates)
+}
+
+/// The elements that gates are.
+pub(crate) fn elements(alloc: Global, gates: &[NumberedGate]) -> Result<List<Element>, NoMemory>
+    ensures { IfOk result (λ elements. elements ≡ map as_element gates.now) }
+{
+    let mut elements = List::new(alloc);
+    'gates: for gate in gates {
+        elements.push(Element::Gate {
+            op: gate.op,
+            inputs: one_net(alloc, gate.input)?,
+            output: gate.output,
+        })?;
+    }
+    Ok(elements)
 }
 
 /// The scopes in which the paths of primitives end, where their names are all different: each that
@@ -134,9 +156,9 @@ fn top_name(alloc: Global, text: &[u8]) -> Result<NetName, NoMemory>
     })
 }
 
-/// The names of all nets, the constants first.
-pub(crate) fn net_list(alloc: Global, nets: &Names) -> Result<List<NetName>, NoMemory>
-    ensures { IfOk result (λ names. names ≡ top_name (codes "1'b0") ∷ top_name (codes "1'b1") ∷ map top_name nets.now) }
+/// The names of all nets, the constants first. Takes the table, so that it is given back.
+pub(crate) fn net_list(alloc: Global, nets: Names) -> Result<List<NetName>, NoMemory>
+    ensures { IfOk result (λ names. names ≡ top_name (codes "1'b0") ∷ top_name (codes "1'b1") ∷ map top_name nets) }
 {
     let mut names = List::new(alloc);
     names.push(top_name(alloc, b"1'b0")?)?;
@@ -147,9 +169,9 @@ pub(crate) fn net_list(alloc: Global, nets: &Names) -> Result<List<NetName>, NoM
     Ok(names)
 }
 
-/// The top and the scopes of primitives below it.
-pub(crate) fn scope_list(alloc: Global, top: &[u8], own: &Names) -> Result<List<Scope>, NoMemory>
-    ensures { IfOk result (λ scopes. scopes ≡ record { parent = None; name = top.now } ∷ map own_scope own.now) }
+/// The top and the scopes of primitives below it. Takes the table, so that it is given back.
+pub(crate) fn scope_list(alloc: Global, top: &[u8], own: Names) -> Result<List<Scope>, NoMemory>
+    ensures { IfOk result (λ scopes. scopes ≡ record { parent = None; name = top.now } ∷ map own_scope own) }
 {
     let mut scopes = List::new(alloc);
     scopes.push(Scope {

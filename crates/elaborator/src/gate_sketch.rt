@@ -29,6 +29,13 @@ pub(crate) struct Sketch {
     pub(crate) primitives: List<Primitive>,
 }
 
+/// The names in the header of a module, and what its items list.
+#[derive(Debug, Drop)]
+pub(crate) struct Lists {
+    pub(crate) header: List<u32>,
+    pub(crate) sketch: Sketch,
+}
+
 /// The operation of the word `buf` or `not` at a place.
 fn op_at(tokens: &Tokens, place: u32) -> Option<Op>
     ensures { result ≡ op_at tokens.now place }

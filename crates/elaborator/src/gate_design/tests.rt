@@ -85,7 +85,7 @@ fn told(alloc: Global, source: &[u8]) -> Result<Vec<u8>, Fail>
 {
     let tokens = tokens(alloc, source)?;
     let tree = parse(alloc, &tokens)?;
-    match gate_parts(alloc, source, &tokens, &tree, b"t") {
+    match gate_parts(alloc, source, tokens, tree, b"t") {
         Ok(parts) => line(alloc, &parts),
         Err(ElabFault::NotYet) => Ok(Vec::new(alloc)),
         Err(fault) => Err(Fail::from(fault)),
@@ -216,7 +216,7 @@ fn nets(alloc: Global, source: &[u8]) -> Result<u32, Fail>
 {
     let tokens = tokens(alloc, source)?;
     let tree = parse(alloc, &tokens)?;
-    match read_gates(alloc, source, &tokens, &tree, b"t") {
+    match read_gates(alloc, source, tokens, tree, b"t") {
         Ok(design) => Ok(design.nets()),
         Err(ElabFault::NotYet) => Ok(0),
         Err(fault) => Err(Fail::from(fault)),
