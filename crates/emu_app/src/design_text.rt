@@ -99,7 +99,7 @@ pub fn read_design(alloc: Global, top: &[u8], text: &[u8]) -> Result<Design, Unr
     verilog_lex::each_text_has_one_answer();
     verilog_tree::has_one_tree();
     let parsed = read_tree(alloc, text)?;
-    match read_gates(alloc, text, &parsed.tokens, &parsed.tree, top) {
+    match read_gates(alloc, text, parsed.tokens, parsed.tree, top) {
         Ok(design) => Ok(design),
         Err(ElabFault::NotYet) => Err(Unread::Refused(Refusal::NotYet(What::Design))),
         Err(ElabFault::NoMemory) => Err(Unread::NoMemory),
