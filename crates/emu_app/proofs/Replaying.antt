@@ -41,7 +41,7 @@ use Rattle.settled_model.specs.Opening.{AreInputs, Opens}
 use Rattle.settled_model.specs.Runs.{OpeningsFit}
 use Rattle.event_replay.specs.Runs.{machine_trace, spots_of, BreaksOff, ReplayMeans as RunMeans}
 use Rattle.event_replay.specs.Settings.{AreInputBits}
-use Rattle.trace_law.specs.Traces.{BrokenTraces, OpenedAreSame, TracesAgree}
+use Rattle.trace_law.specs.Traces.{BrokenTraces, LoadedTraceIsOne, OpenedAreSame, TracesAgree}
 use Rattle.emu_app.specs.declared.answer.Answer.{Answer}
 use Rattle.emu_app.specs.declared.plan_texts.OneChip.{OneChip}
 use Rattle.emu_app.specs.declared.recording.Recording.{Recording}
@@ -163,12 +163,20 @@ opened_loaded law p inputs results w x design ranked fits can opened loaded v is
 
 -- ## The trace of the machine
 
-module _ (p : Parts) (chip : OneChip) (results : Results) (r : Recording) (x : State) where
+-- all machines that are loaded from one valuation, with 0 in all that is free, have one trace
+same_trace : LoadedTraceIsOne → (p : Parts) (chip : OneChip) (results : Results) (r : Recording) (v : Valuation) (x y : State)
+    → IsCase (case_of p chip results) → CanReplay (case_of p chip results) → IsPlainResults results
+    → IsLoaded p results v x → FreeAreZero results x → IsLoaded p results v y → FreeAreZero results y
+    → machine_trace p results (run_of results [] x r.events) ≡ machine_trace p results (run_of results [] y r.events)
+same_trace law p chip results r v x y case fit plain =
+    law (case_of p chip results) fit.inside r.events v x y case plain.schedule (fit.rules A5 (omega arith))
+
+module _ (p : Parts) (chip : OneChip) (results : Results) (r : Recording) (x : State) (fit : CanReplay (case_of p chip results)) (plain : IsPlainResults results) where
   -- the trace of a machine that is loaded from the opened valuation
-  pub run_trace : TracesAgree → IsCase (case_of p chip results) → OpeningFits p (opening_of r) → EventsFit (case_of p chip results) r.events → HasOneHistory p (opening_of r) (event_values r.events)
+  pub run_trace : TracesAgree → LoadedTraceIsOne → IsCase (case_of p chip results) → OpeningFits p (opening_of r) → EventsFit (case_of p chip results) r.events → HasOneHistory p (opening_of r) (event_values r.events)
       → ((v : Valuation) → IsOpened p (opening_of r) v → IsLoaded p results v x) → FreeAreZero results x
       → IsMachineTrace (case_of p chip results) r (machine_trace p results (run_of results [] x r.events))
-  run_trace agree case opening events h loaded free = go h.history h.is_one
+  run_trace agree single case opening events h loaded free = go h.history h.is_one
     where
       go : (history : List Valuation) → IsHistory p (opening_of r) (event_values r.events) history → IsMachineTrace (case_of p chip results) r (machine_trace p results (run_of results [] x r.events))
       go [] is = absurd is
@@ -180,18 +188,18 @@ module _ (p : Parts) (chip : OneChip) (results : Results) (r : Recording) (x : S
             loaded = x;
             is_loaded = loaded v is.0;
             free = free;
-            shown = refl;
+            shown = λ w y opened other zeros. same_trace single p chip results r w x y case fit plain (loaded w opened) free other zeros;
             agrees = λ accepted. agree (case_of p chip results) (opening_of r) r.events v vs x case accepted opening events is (loaded v is.0);
           }
 
 -- the trace of a machine that is loaded from the values of the settled valuation
-pub loaded_trace : TracesAgree → OneHistory → OpeningsFit → InputIsInputBit → (p : Parts) (chip : OneChip) (results : Results) (r : Recording) (x y : State)
-    → IsDesign p → IsRanked p → MapFits results → IsNetlist results.net → HasInputBits p r → x ≡ y
+pub loaded_trace : TracesAgree → LoadedTraceIsOne → OneHistory → OpeningsFit → InputIsInputBit → (p : Parts) (chip : OneChip) (results : Results) (r : Recording) (x y : State)
+    → CanReplay (case_of p chip results) → IsPlainResults results → IsDesign p → IsRanked p → MapFits results → IsNetlist results.net → HasInputBits p r → x ≡ y
     → ((v : Valuation) → IsOpened p (opening_of r) v → IsLoaded p results v y) → FreeAreZero results y
     → IsMachineTrace (case_of p chip results) r (machine_trace p results (run_of results [] x r.events))
-loaded_trace agree one opens law p chip results r x y design ranked mapped netlist bits same loaded free =
+loaded_trace agree single one opens law p chip results r x y fit plain design ranked mapped netlist bits same loaded free =
     let fits : OpeningFits p (opening_of r) = opens p _ (opens_inputs law p r.inputs bits.opening) in
-    run_trace p chip results r x agree (is_case p chip results design ranked mapped netlist) fits (events_fit law p chip results r bits)
+    run_trace p chip results r x fit plain agree single (is_case p chip results design ranked mapped netlist) fits (events_fit law p chip results r bits)
     (one p (opening_of r) (event_values r.events) design ranked fits)
     (subst (λ (z : State). (v : Valuation) → IsOpened p (opening_of r) v → IsLoaded p results v z) (sym same) loaded)
     (subst (λ (z : State). FreeAreZero results z) (sym same) free)

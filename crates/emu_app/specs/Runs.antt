@@ -52,8 +52,9 @@ pub record IsHistoryTrace (p : Parts) (r : Recording) (trace : List ℕ) : Type 
   pub one : HasOneHistory p (opening_of r) (event_values r.events)
   pub shown : trace ≡ settled_trace p (drop 1 one.history)
 
--- The trace of the machine that is loaded from the first valuation of the history, with 0 in all that is
--- free. Where the twelve rules hold, it is the trace of the history too.
+-- The trace of every machine that is loaded from an opened valuation, with 0 in all that is free; and there
+-- is one, loaded from the first valuation of the history. Where the twelve rules hold, the trace is that of
+-- the history too.
 pub record IsMachineTrace (c : Case) (r : Recording) (trace : List ℕ) : Type 0 where
   pub first : Valuation
   pub rest : List Valuation
@@ -61,7 +62,11 @@ pub record IsMachineTrace (c : Case) (r : Recording) (trace : List ℕ) : Type 0
   pub loaded : State
   pub is_loaded : IsLoaded c.design c.results first loaded
   pub free : FreeAreZero c.results loaded
-  pub shown : trace ≡ machine_trace c.design c.results (run_of c.results c.board.wires loaded r.events)
+  pub shown : (v : Valuation) (x : State)
+      → settled.IsOpened c.design (opening_of r) v
+      → IsLoaded c.design c.results v x
+      → FreeAreZero c.results x
+      → trace ≡ machine_trace c.design c.results (run_of c.results c.board.wires x r.events)
   pub agrees : IsAccepted c → trace ≡ settled_trace c.design rest
 
 -- the rules A1 to A9 hold, so that a machine can run the results

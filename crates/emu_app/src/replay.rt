@@ -217,6 +217,7 @@ fn replay_recording<O: Sink>(
     cycle_sim::judged_can_run();
     cycle_sim::judged_can_load();
     trace_law::traces::traces_agree();
+    trace_law::traces::loaded_trace_is_one();
     trace_law::traces::broken_traces();
     trace_law::traces::outputs_are_mapped();
     history_law::drivers::input_is_input_bit();

@@ -1,3 +1,4 @@
 pub mod Spots
 pub mod Histories
 pub mod Breaks
+pub mod Alike

@@ -13,9 +13,11 @@ use Rattle.design_core.specs.Event.{Follow, IsHistory, HasOneHistory}
 use Rattle.emu_io.specs.Sink.{AppendsWhereTold}
 use Rattle.emu_machine.specs.State.{State, run_of}
 use Rattle.emu_machine.specs.Mapped.{IsLoaded}
-use Rattle.emu_machine.specs.Acceptance.{Case, A9, Holds, IsAccepted}
+use Rattle.emu_machine.specs.Acceptance.{Case, A5, A9, Holds, IsAccepted}
 use Rattle.emu_machine.specs.Headline.{EventsFit, event_values}
 use Rattle.emu_machine.specs.Law.{IsCase}
+use Rattle.emu_machine.specs.Plain.{IsPlainSchedule}
+use Rattle.cycle_sim.specs.Loading.{FreeAreZero}
 use Rattle.event_replay.specs.Runs.{outputs_of, settled_trace, machine_trace, BreaksOff}
 use Rattle.event_replay.specs.Traces.{trace_of}
 
@@ -31,6 +33,21 @@ TracesAgree =
     → IsHistory c.design o (event_values events) (v ∷ vs)
     → IsLoaded c.design c.results v x
     → machine_trace c.design c.results (run_of c.results c.board.wires x events) ≡ settled_trace c.design vs
+
+-- where rule A5 holds and every action is an `input`, all machines that are loaded from one valuation, with 0
+-- in all that is free, have one trace, whatever the events
+abbrev pub LoadedTraceIsOne : Type 0
+LoadedTraceIsOne =
+    (c : Case) (inside : ℕ → NodeId → Bool) (events : List Event) (v : Valuation) (x y : State)
+    → IsCase c
+    → IsPlainSchedule c.results.schedule
+    → Holds c inside A5
+    → IsLoaded c.design c.results v x
+    → FreeAreZero c.results x
+    → IsLoaded c.design c.results v y
+    → FreeAreZero c.results y
+    → machine_trace c.design c.results (run_of c.results c.board.wires x events)
+    ≡ machine_trace c.design c.results (run_of c.results c.board.wires y events)
 
 -- two opened valuations of one opening are the same
 abbrev pub OpenedAreSame : Type 0

@@ -1,11 +1,17 @@
 //! The laws of traces.
 
-ghost use Rattle.trace_law.specs.Traces.{BrokenTraces, OpenedAreSame, OutputsAreMapped, SettledTraceIsOne, SettledTraces, TracesAgree};
+ghost use Rattle.trace_law.specs.Traces.{BrokenTraces, LoadedTraceIsOne, OpenedAreSame, OutputsAreMapped, SettledTraceIsOne, SettledTraces, TracesAgree};
 
 /// Where the twelve rules hold, a machine that is loaded from the opened valuation has the trace of the
 /// original, whatever the opening and the events.
 pub fn traces_agree()
     ensures { TracesAgree }
+{}
+
+/// Where rule A5 holds and every action is an `input`, all machines that are loaded from one valuation,
+/// with 0 in all that is free, have one trace, whatever the events.
+pub fn loaded_trace_is_one()
+    ensures { LoadedTraceIsOne }
 {}
 
 /// Two opened valuations of one opening are the same.

@@ -47,8 +47,8 @@ returns-in-Ok-replay_lines g c =
     let x : State = state c.in-Ok-open.machine in
     let y : State = state c.replay_lines.new.machine in
     let trace : IsMachineTrace (case_of p c.args.chip c.args.results.now) c.args.recording (machine_trace p c.args.results.now (run_of c.args.results.now [] x c.args.recording.events)) =
-    loaded_trace c.traces_agree.ensures c.one_history.ensures c.openings_fit.ensures c.input_is_input_bit.ensures p c.args.chip c.args.results.now c.args.recording x _
-    design c.stands-2.ensures.ranked c.requires.mapped c.requires.netlist c.requires.bits (ap state c.in-Ok-open.ensures) c.in-Ok.ensures.loaded c.in-Ok.ensures.free in
+    loaded_trace c.traces_agree.ensures c.loaded_trace_is_one.ensures c.one_history.ensures c.openings_fit.ensures c.input_is_input_bit.ensures p c.args.chip c.args.results.now c.args.recording x _
+    c.requires.fit c.requires.results design c.stands-2.ensures.ranked c.requires.mapped c.requires.netlist c.requires.bits (ap state c.in-Ok-open.ensures) c.in-Ok.ensures.loaded c.in-Ok.ensures.free in
     run_written (IsMachineTrace (case_of p c.args.chip c.args.results.now) c.args.recording) p c.args.results.now c.args.recording.events x y
     (g.O.Sink.written c.args.out.now) (g.O.Sink.written c.replay_lines.new.out) (g.O.Sink.faults c.args.out.now) (g.O.Sink.faults c.replay_lines.new.out)
     trace (Unit {0}) c.in-Ok-replay_lines.field-0
@@ -62,8 +62,8 @@ returns g c =
     let x : State = state c.in-Ok-open.machine in
     let y : State = state c.replay_lines.new.machine in
     let trace : IsMachineTrace (case_of p c.args.chip c.args.results.now) c.args.recording (machine_trace p c.args.results.now (run_of c.args.results.now [] x c.args.recording.events)) =
-    loaded_trace c.traces_agree.ensures c.one_history.ensures c.openings_fit.ensures c.input_is_input_bit.ensures p c.args.chip c.args.results.now c.args.recording x _
-    design c.stands-2.ensures.ranked c.requires.mapped c.requires.netlist c.requires.bits (ap state c.in-Ok-open.ensures) c.in-Ok.ensures.loaded c.in-Ok.ensures.free in
+    loaded_trace c.traces_agree.ensures c.loaded_trace_is_one.ensures c.one_history.ensures c.openings_fit.ensures c.input_is_input_bit.ensures p c.args.chip c.args.results.now c.args.recording x _
+    c.requires.fit c.requires.results design c.stands-2.ensures.ranked c.requires.mapped c.requires.netlist c.requires.bits (ap state c.in-Ok-open.ensures) c.in-Ok.ensures.loaded c.in-Ok.ensures.free in
     run_stopped (IsMachineTrace (case_of p c.args.chip c.args.results.now) c.args.recording) p c.args.results.now c.args.recording.events x y
     (g.O.Sink.written c.args.out.now) (g.O.Sink.written c.replay_lines.new.out) (g.O.Sink.faults c.args.out.now) (g.O.Sink.faults c.replay_lines.new.out)
     trace (Unit {0}) NoAnswer c.in-Err.fault c.broken_traces.ensures
