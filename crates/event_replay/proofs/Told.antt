@@ -11,7 +11,7 @@ use Rattle.design_core.specs.declared.values.PortBit.{PortBit}
 use Rattle.design_core.specs.Design.{IsDesign}
 use Rattle.event_replay.specs.declared.fault.TextFault.{TextFault}
 use Rattle.event_replay.specs.Faults.{Answers}
-use Rattle.event_replay.specs.Events.{AreFresh, SaysEvents, TellsEvent, WordSets, WordsGive, TextsTellEventsApart}
+use Rattle.event_replay.specs.Events.{AreEarlier, SaysEvents, TellsEvent, WordSets, WordsGive, TextsTellEventsApart}
 use Rattle.event_replay.specs.Lines.{words, event_lines, is_passed_over, lines}
 use Rattle.event_replay.specs.Settings.{Setting, Sets, IsOfPort, AreSet, AreInputBits, EachOnce, bits_set}
 use Rattle.event_replay.specs.Values.{shown_bits, is_hex}
@@ -69,32 +69,32 @@ counted port s same = cond-true (s.port == port) 1 0 (eq-eqb s.port port same)
 uncounted : (port : ℕ) (s : Setting) → (s.port ≡ port → ⊥) → cond {A = ℕ} (s.port == port) 1 0 ≡ 0
 uncounted port s differs = cond-false (s.port == port) 1 0 (ne_eqb s.port port differs)
 
--- the words so far set ports, and the marks tell which
-pub record Setting-up (ports : List Port) (all rest : List (List ℕ)) (marks : List ℕ) (line : ℕ) (values : List PortBit) : Type 0 where
+-- the words so far, of the line of this number, set ports, and the last lines of the ports tell which
+pub record Setting-up (ports : List Port) (all rest : List (List ℕ)) (last_lines : List ℕ) (line : ℕ) (values : List PortBit) : Type 0 where
   pub done : List (List ℕ)
   pub settings : List Setting
   pub split : all ≡ done ++ rest
   pub set : AllZip (WordSets ports) done settings
   pub once : EachOnce settings
   pub bits : values ≡ bits_set settings
-  pub marked : (port : ℕ) → get_or marks port 0 ≡ line → 0 < set_count port settings
-  pub unmarked : (port : ℕ) → (get_or marks port 0 ≡ line → ⊥) → set_count port settings ≡ 0
-  pub fresh : AreFresh ports marks (line + 1)
+  pub set_here : (port : ℕ) → get_or last_lines port 0 ≡ line → 0 < set_count port settings
+  pub not_set : (port : ℕ) → (get_or last_lines port 0 ≡ line → ⊥) → set_count port settings ≡ 0
+  pub earlier : AreEarlier ports last_lines (line + 1)
 
-pub nothing_set : (ports : List Port) (all : List (List ℕ)) (marks : List ℕ) (line : ℕ) → AreFresh ports marks line → Setting-up ports all all marks line []
-nothing_set ports all marks line fresh = record {
+pub nothing_set : (ports : List Port) (all : List (List ℕ)) (last_lines : List ℕ) (line : ℕ) → AreEarlier ports last_lines line → Setting-up ports all all last_lines line []
+nothing_set ports all last_lines line before = record {
   done = [];
   settings = [];
   split = refl;
   set = tt;
   once = λ port. omega arith;
   bits = refl;
-  marked = λ port here. absurd (omega (arith, fresh.earlier port));
-  unmarked = λ port differs. refl;
-  fresh = record { size = fresh.size; earlier = λ port. omega (arith, fresh.earlier port) };
+  set_here = λ port here. absurd (omega (arith, before.earlier port));
+  not_set = λ port differs. refl;
+  earlier = record { size = before.size; earlier = λ port. omega (arith, before.earlier port) };
 }
 
-module _ (ports : List Port) (all rest : List (List ℕ)) (word : List ℕ) (marks : List ℕ) (line : ℕ) (values : List PortBit) (u : Setting-up ports all (word ∷ rest) marks line values) where
+module _ (ports : List Port) (all rest : List (List ℕ)) (word : List ℕ) (last_lines : List ℕ) (line : ℕ) (values : List PortBit) (u : Setting-up ports all (word ∷ rest) last_lines line values) where
   -- a word that sets no port is among no words that give values
   pub word_wrong : ((s : Setting) → WordSets ports word s → ⊥) → (others : List PortBit) → WordsGive ports all others → ⊥
   word_wrong none others gives =
@@ -102,49 +102,49 @@ module _ (ports : List Port) (all rest : List (List ℕ)) (word : List ℕ) (mar
       none partner.0 partner.1
 
   -- neither is one that sets a port again
-  pub word_again : (s : Setting) → WordSets ports word s → get_or marks s.port 0 ≡ line → (others : List PortBit) → WordsGive ports all others → ⊥
-  word_again s here marked others gives =
+  pub word_again : (s : Setting) → WordSets ports word s → get_or last_lines s.port 0 ≡ line → (others : List PortBit) → WordsGive ports all others → ⊥
+  word_again s here same_line others gives =
       let front = zip_front (WordSets ports) (one_word ports) u.done word rest u.settings s gives.settings u.set here (subst (λ ws. AllZip (WordSets ports) ws gives.settings) u.split gives.set) in
       let count : set_count s.port gives.settings ≡ set_count s.port u.settings + cond {A = ℕ} (s.port == s.port) 1 0 + set_count s.port front.0 = ap (set_count s.port) front.1 ∙ count_push s.port u.settings s front.0 in
       let own = counted s.port s refl in
-      let before = u.marked s.port marked in
+      let before = u.set_here s.port same_line in
       let once = gives.once s.port in
       omega arith
 
   -- one that sets another port is taken
-  pub word_taken : (s : Setting) (marks-2 : List ℕ) (new : List PortBit) → WordSets ports word s → (get_or marks s.port 0 ≡ line → ⊥) → s.port < length marks → marks-2 ≡ set marks s.port line → new ≡ values ++ shown_bits s.nets s.number → Setting-up ports all rest marks-2 line new
-  word_taken s marks-2 new here differs inside written added = record {
+  pub word_taken : (s : Setting) (next : List ℕ) (new : List PortBit) → WordSets ports word s → (get_or last_lines s.port 0 ≡ line → ⊥) → s.port < length last_lines → next ≡ set last_lines s.port line → new ≡ values ++ shown_bits s.nets s.number → Setting-up ports all rest next line new
+  word_taken s next new here differs inside written added = record {
     done = u.done ++ word ∷ [];
     settings = u.settings ++ s ∷ [];
     split = u.split ∙ sym (append_assoc u.done (word ∷ []) rest);
     set = zip_push (WordSets ports) u.done u.settings word s u.set here;
     once = λ port. elim (cases_eq s.port port) [
-      | inl same ↦ (let one = counted port s same in let none = u.unmarked s.port differs in let other : set_count port u.settings ≡ 0 = subst (λ p. set_count p u.settings ≡ 0) same none in omega (arith, count_push port u.settings s []))
+      | inl same ↦ (let one = counted port s same in let none = u.not_set s.port differs in let other : set_count port u.settings ≡ 0 = subst (λ p. set_count p u.settings ≡ 0) same none in omega (arith, count_push port u.settings s []))
       | inr other ↦ (let none = uncounted port s other in let before = u.once port in omega (arith, count_push port u.settings s []))
     ];
     bits = added ∙ ap (λ bits. bits ++ shown_bits s.nets s.number) u.bits ∙ sym (bits_push u.settings s);
-    marked = λ port mark. elim (cases_eq s.port port) [
+    set_here = λ port same_line. elim (cases_eq s.port port) [
       | inl same ↦ (let one = counted port s same in omega (arith, count_push port u.settings s []))
-      | inr other ↦ (let before = u.marked port (sym (kept port other) ∙ mark) in omega (arith, count_push port u.settings s []))
+      | inr other ↦ (let before = u.set_here port (sym (kept port other) ∙ same_line) in omega (arith, count_push port u.settings s []))
     ];
-    unmarked = λ port none. elim (cases_eq s.port port) [
-      | inl same ↦ absurd (none (ap (λ p. get_or marks-2 p 0) (sym same) ∙ own))
-      | inr other ↦ (let zero_is = uncounted port s other in let before = u.unmarked port (λ mark. none (kept port other ∙ mark)) in omega (arith, count_push port u.settings s []))
+    not_set = λ port none. elim (cases_eq s.port port) [
+      | inl same ↦ absurd (none (ap (λ p. get_or next p 0) (sym same) ∙ own))
+      | inr other ↦ (let zero_is = uncounted port s other in let before = u.not_set port (λ same_line. none (kept port other ∙ same_line)) in omega (arith, count_push port u.settings s []))
     ];
-    fresh = record {
-      size = ap length written ∙ length-set marks s.port line ∙ u.fresh.size;
+    earlier = record {
+      size = ap length written ∙ length-set last_lines s.port line ∙ u.earlier.size;
       earlier = λ port. elim (cases_eq s.port port) [
-        | inl same ↦ (let here-2 : get_or marks-2 port 0 ≡ line = ap (λ p. get_or marks-2 p 0) (sym same) ∙ own in omega arith)
-        | inr other ↦ (let there = kept port other in let before = u.fresh.earlier port in omega arith)
+        | inl same ↦ (let last : get_or next port 0 ≡ line = ap (λ p. get_or next p 0) (sym same) ∙ own in omega arith)
+        | inr other ↦ (let there = kept port other in let before = u.earlier.earlier port in omega arith)
       ];
     };
   }
     where
-      own : get_or marks-2 s.port 0 ≡ line
-      own = ap (λ ms. get_or ms s.port 0) written ∙ get_or-set_same marks s.port line 0 inside
+      own : get_or next s.port 0 ≡ line
+      own = ap (λ lasts. get_or lasts s.port 0) written ∙ get_or-set_same last_lines s.port line 0 inside
 
-      kept : (port : ℕ) → (s.port ≡ port → ⊥) → get_or marks-2 port 0 ≡ get_or marks port 0
-      kept port other = ap (λ ms. get_or ms port 0) written ∙ get_or-set_other marks s.port port line 0 (λ e. other (sym e))
+      kept : (port : ℕ) → (s.port ≡ port → ⊥) → get_or next port 0 ≡ get_or last_lines port 0
+      kept port other = ap (λ lasts. get_or lasts port 0) written ∙ get_or-set_other last_lines s.port port line 0 (λ e. other (sym e))
 
 of_words : (ports : List Port) (given : List (List ℕ)) (settings : List Setting) → AllZip (WordSets ports) given settings → AllByRecursion (IsOfPort ports) settings
 of_words ports [] [] set = tt

@@ -40,8 +40,8 @@ abbrev pub TextsTellEventsApart : Type 0
 TextsTellEventsApart =
     (ports : List Port) (text : List ℕ) (one other : List Event) → SaysEvents ports text one → SaysEvents ports text other → one ≡ other
 
--- Marks for some ports, each the number of the last line that sets the port. They are fresh for a line
--- that comes after those.
-pub record AreFresh (ports : List Port) (marks : List ℕ) (line : ℕ) : Type 0 where
-  pub size : length marks ≡ length ports
-  pub earlier : (port : ℕ) → get_or marks port 0 < line
+-- For each port the number of the line that set it last, and 0 where none has. All these lines stand
+-- before this one.
+pub record AreEarlier (ports : List Port) (last_lines : List ℕ) (line : ℕ) : Type 0 where
+  pub size : length last_lines ≡ length ports
+  pub earlier : (port : ℕ) → get_or last_lines port 0 < line

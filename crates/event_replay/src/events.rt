@@ -3,7 +3,7 @@
 ghost use Rattle.std.specs.Prelude.{◌≡◌, ◌+◌, ◌<◌, Contains, IfOk, MatchOption, OnOk, IsTrue, length};
 ghost use Rattle.std.specs.List.{list_all};
 ghost use Rattle.design_core.specs.declared.values.Event.{Event};
-ghost use Rattle.event_replay.specs.Events.{AreFresh, SaysEvents, TellsEvent, TextsTellEventsApart, WordSets, WordsGive};
+ghost use Rattle.event_replay.specs.Events.{AreEarlier, SaysEvents, TellsEvent, TextsTellEventsApart, WordSets, WordsGive};
 ghost use Rattle.event_replay.specs.Faults.{Answers};
 ghost use Rattle.event_replay.specs.Lines.{words};
 ghost use Rattle.event_replay.specs.Settings.{AreInputBits, Setting};
@@ -29,8 +29,8 @@ pub fn read_events(alloc: Global, bytes: &[u8], design: &Design) -> Result<List<
     design.stands();
     let inputs = design.inputs().as_slice();
     let ports = PortNames::new(alloc, inputs)?;
-    let mut marks = no_marks(alloc, inputs)?;
-    read_lines(alloc, bytes, &ports, marks.as_mut_slice())
+    let mut last_lines = no_lines(alloc, inputs)?;
+    read_lines(alloc, bytes, &ports, last_lines.as_mut_slice())
 }
 
 /// The law that a text tells at most one list of events.
@@ -38,22 +38,22 @@ pub fn events_are_told_apart()
     ensures { TextsTellEventsApart }
 {}
 
-/// Marks for ports that no line has set.
-fn no_marks(alloc: Global, ports: &[Port]) -> Result<Vec<usize>, NoMemory>
-    ensures { IfOk result (λ marks. AreFresh ports.now marks.items 1) }
+/// The line that set each port last, where none has set any.
+fn no_lines(alloc: Global, ports: &[Port]) -> Result<Vec<usize>, NoMemory>
+    ensures { IfOk result (λ last_lines. AreEarlier ports.now last_lines.items 1) }
 {
     Ok(vec![in alloc; 0; ports.len()]?)
 }
 
-/// The events that the lines of a text tell. The marks keep for each port the number of the last line
-/// that sets it, so that no line is gone through twice.
+/// The events that the lines of a text tell. `last_lines` keeps for each port the number of the line that
+/// set it last, so that no line is gone through twice.
 fn read_lines(
     alloc: Global,
     bytes: &[u8],
     ports: &PortNames<'_>,
-    marks: &mut [usize],
+    last_lines: &mut [usize],
 ) -> Result<List<Event>, TextFault>
-    requires { AreFresh ports.now marks.old 1 }
+    requires { AreEarlier ports.now last_lines.old 1 }
     ensures { Answers (SaysEvents ports.now bytes.now) result }
 {
     let mut events = List::new(alloc);
@@ -66,7 +66,7 @@ fn read_lines(
         if is_passed_over(line) {
             continue;
         }
-        match read_event(alloc, line, ports, marks, number) {
+        match read_event(alloc, line, ports, last_lines, number) {
             Ok(event) => events.push(event)?,
             Err(fault) => return Err(fault),
         }
@@ -79,12 +79,12 @@ fn read_event(
     alloc: Global,
     line: &[u8],
     ports: &PortNames<'_>,
-    marks: &mut [usize],
+    last_lines: &mut [usize],
     number: usize,
 ) -> Result<Event, TextFault>
-    requires { AreFresh ports.now marks.old number }
+    requires { AreEarlier ports.now last_lines.old number }
     ensures means { Answers (TellsEvent ports.now line.now) result }
-    ensures marks { OnOk result (AreFresh ports.now marks.new (number + 1)) }
+    ensures lines { OnOk result (AreEarlier ports.now last_lines.new (number + 1)) }
 {
     if !is_plain(line) {
         return Err(TextFault::NotYet);
@@ -95,7 +95,7 @@ fn read_event(
     if group != b"*".as_slice() {
         return Err(TextFault::NotYet);
     }
-    match read_settings(alloc, rest, ports, marks, number) {
+    match read_settings(alloc, rest, ports, last_lines, number) {
         Ok(values) => Ok(Event {
             group: GroupId::of(0),
             values,
@@ -109,12 +109,12 @@ fn read_settings(
     alloc: Global,
     text: &[u8],
     ports: &PortNames<'_>,
-    marks: &mut [usize],
+    last_lines: &mut [usize],
     number: usize,
 ) -> Result<PortValues, TextFault>
-    requires { AreFresh ports.now marks.old number }
+    requires { AreEarlier ports.now last_lines.old number }
     ensures means { Answers (WordsGive ports.now (words text.now)) result }
-    ensures marks { OnOk result (AreFresh ports.now marks.new (number + 1)) }
+    ensures lines { OnOk result (AreEarlier ports.now last_lines.new (number + 1)) }
 {
     let mut values = List::new(alloc);
     let mut rest = text;
@@ -122,10 +122,10 @@ fn read_settings(
         let Some((place, nets, digits)) = read_setting(word, ports) else {
             return Err(TextFault::NotYet);
         };
-        if marks[place] == number {
+        if last_lines[place] == number {
             return Err(TextFault::NotYet);
         }
-        marks[place] = number;
+        last_lines[place] = number;
         push_bits(&mut values, nets, digits)?;
         rest = after;
     }

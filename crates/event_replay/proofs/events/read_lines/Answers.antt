@@ -17,7 +17,7 @@ lines-preserved c =
     let bytes : bytes_left (option_copied c.lines.rest) ≡ _ = ap (λ r. bytes_left (option_copied r)) c.in-Some.is in
     let less = less_left c.in-Some.text.now after c.cut_line.ensures.less in (
       subst (Telling ports all (lines_left after)) (sym c.in_ok-push-in-Ok.ensures.ok) (event_told ports all (lines_left after) line c.lines.events c.in-Ok.event t c.in-Ok.ensures.means),
-      c.in-Ok.ensures.marks,
+      c.in-Ok.ensures.lines,
       omega (arith, bytes, less, c.lines.invariant.2),
     )
 
