@@ -11,21 +11,16 @@ use Rattle.design_core.specs.Valuation.{Valuation}
 use Rattle.emu_io.specs.declared.files.StoreFault.{StoreFault}
 use Rattle.emu_io.specs.Sink.{AppendsWhereTold, PutMeans}
 use Rattle.emu_machine.specs.Headline.{event_values}
-use Rattle.event_replay.specs.Runs.{BreaksOff, HaveSettled, SettleMeans, final, outputs_of, settled_trace}
+use Rattle.settled_model.proofs.History.{runs_grow}
+use Rattle.event_replay.specs.Runs.{BreaksOff, HaveSettled, Leaves, SettleMeans, outputs_of, settled_trace}
 use Rattle.event_replay.specs.Traces.{trace_line_of, trace_of}
-use Rattle.event_replay.proofs.TraceGrowth.{final_more, line_broken, line_put, take_next}
+use Rattle.event_replay.proofs.TraceGrowth.{last_more, line_broken, line_put, take_next}
 
 -- the first events, so many of them, are done, and their trace is written whole
 pub record Settling (p : Parts) (v : Valuation) (events : List Event) (count : ℕ) (now : Valuation) (old new : Option (List ℕ)) : Type 0 where
   pub vs : List Valuation
   pub done : HaveSettled p v events count vs now
   pub text : AppendsWhereTold old (settled_trace p vs) new
-
-follow_more : (p : Parts) (v : Valuation) (events : List (List PortBit)) (vs : List Valuation) (event : List PortBit) (w : Valuation) → Follow p v events vs → IsAfter p (final v vs) event w → Follow p v (events ++ event ∷ []) (vs ++ w ∷ [])
-follow_more p v [] [] event w follow after = (after, tt)
-follow_more p v [] (x ∷ vs) event w follow after = absurd follow
-follow_more p v (e ∷ events) [] event w follow after = absurd follow
-follow_more p v (e ∷ events) (x ∷ vs) event w follow after = (follow.0, follow_more p x events vs event w follow.1 after)
 
 as_many : (p : Parts) (v : Valuation) (events : List (List PortBit)) (vs : List Valuation) → Follow p v events vs → length vs ≡ length events
 as_many p v [] [] follow = refl
@@ -43,9 +38,9 @@ module _ (p : Parts) (v : Valuation) (events : List Event) (count : ℕ) (now : 
     follow =
         subst (λ given. Follow p v given (so_far.vs ++ w ∷ []))
         (sym (ap event_values (take_next events count event at) ∙ map-append (λ e. e.values) (take count events) (event ∷ [])))
-        (follow_more p v (event_values (take count events)) so_far.vs event.values w so_far.done.follow
+        (runs_grow p v (event_values (take count events)) so_far.vs event.values w so_far.done.follow
         (subst (λ u. IsAfter p u event.values w) so_far.done.last after));
-    last = sym (final_more v so_far.vs w);
+    last = sym (last_more v so_far.vs w);
   }
 
   -- the number of its line
@@ -74,6 +69,7 @@ module _ (p : Parts) (v : Valuation) (events : List Event) (count : ℕ) (now : 
   -- a fault in its line
   pub event_broken : (first start finish : ℕ) (fault : StoreFault) → first ≤ start → PutMeans {X = Unit {0}} mid new start finish (trace_line_of (count + 1) p.outputs (outputs_of p w)) (Err fault) → SettleMeans {X = Unit {0}} p events v w old new first finish (Err fault)
   event_broken first start finish fault less put =
-      let told = line_broken p.outputs (map (outputs_of p) so_far.vs) (outputs_of p w) old mid new so_far.text first start finish fault less
+      let told = line_broken p.outputs (map (outputs_of p) so_far.vs) (outputs_of p w) old mid new so_far.text (Unit {0}) first start finish fault less
       (subst (λ number. PutMeans {X = Unit {0}} mid new start finish (trace_line_of number p.outputs (outputs_of p w)) (Err fault)) line_number put) in
-      (told.0, (count + 1, so_far.vs ++ w ∷ [], done_next, subst (λ shown. BreaksOff p.outputs shown old new) (sym shown_next) told.1))
+      let broken = subst (λ shown. (broken : BreaksOff p.outputs shown old new) × Leaves fault broken.count) (sym shown_next) told.1 in
+      (told.0, (count + 1, so_far.vs ++ w ∷ [], done_next, broken.0, broken.1))

@@ -11,7 +11,8 @@ use Rattle.emu_io.specs.declared.files.StoreFault.{StoreFault}
 use Rattle.emu_io.specs.declared.files.StoreFault.TheVariants as store
 use Rattle.emu_io.specs.Faults.{Rose}
 use Rattle.emu_io.specs.Sink.{AppendsWhereTold, PutMeans}
-use Rattle.event_replay.specs.Runs.{BreaksOff, Shows, final}
+use Rattle.settled_model.specs.Runs.{last_of}
+use Rattle.event_replay.specs.Runs.{BreaksOff, Leaves, Shows}
 use Rattle.event_replay.specs.Traces.{trace_line_of, trace_of}
 
 enumerate_more : {X : Type 0} (n : ℕ) (xs : List X) (x : X) → enumerate_from n (xs ++ x ∷ []) ≡ enumerate_from n xs ++ (n + length xs, x) ∷ []
@@ -21,7 +22,7 @@ enumerate_more n (y ∷ xs) x =
     ap (λ rest. (n, y) ∷ rest) (enumerate_more (n + 1) xs x ∙ ap (λ k. enumerate_from (n + 1) xs ++ (k, x) ∷ []) same)
 
 -- the trace with one more line
-pub trace_more : (outputs : List Port) (shown : List (List Bool)) (bits : List Bool) → trace_of outputs (shown ++ bits ∷ []) ≡ trace_of outputs shown ++ trace_line_of (length shown + 1) outputs bits
+trace_more : (outputs : List Port) (shown : List (List Bool)) (bits : List Bool) → trace_of outputs (shown ++ bits ∷ []) ≡ trace_of outputs shown ++ trace_line_of (length shown + 1) outputs bits
 trace_more outputs shown bits =
     let line : ℕ × List Bool → List ℕ = λ (number, bits). trace_line_of number outputs bits in
     let same : 1 + length shown ≡ length shown + 1 = omega arith in
@@ -37,7 +38,7 @@ appends_both (Some text) mid new first second one two =
     let told : AppendsWhereTold (Some (text ++ first)) second new = subst (λ m. AppendsWhereTold m second new) one two in
     told ∙ ap Some (append_assoc text first second)
 
-appends_nothing : (old new : Option (List ℕ)) → new ≡ old → AppendsWhereTold old [] new
+pub appends_nothing : (old new : Option (List ℕ)) → new ≡ old → AppendsWhereTold old [] new
 appends_nothing None new same = tt
 appends_nothing (Some text) new same = same ∙ ap Some (sym (append-nil text))
 
@@ -60,18 +61,20 @@ module _ (outputs : List Port) (shown : List (List Bool)) (bits : List Bool) (ol
   }
 
   -- after a fault in one more line
-  pub line_broken : (start before after : ℕ) (fault : StoreFault) → start ≤ before → PutMeans {X = Unit {0}} mid new before after (trace_line_of (length shown + 1) outputs bits) (Err fault) → Shows fault start after × BreaksOff outputs (shown ++ bits ∷ []) old new
-  line_broken start before after store.Failed less means =
+  pub line_broken : (X : Type 0) (start before after : ℕ) (fault : StoreFault) → start ≤ before → PutMeans {X = X} mid new before after (trace_line_of (length shown + 1) outputs bits) (Err fault)
+      → Shows fault start after × ((broken : BreaksOff outputs (shown ++ bits ∷ []) old new) × Leaves fault broken.count)
+  unfolding breaks
+  line_broken X start before after store.Failed less means =
       let rose : Rose before after = means.0 in
       let still : Rose start after = omega (arith, rose, less) in
-      (still, breaks means.1.0 means.1.1 means.1.2)
-  line_broken start before after store.NoMemory less means =
-      (tt, breaks 0 (omega arith) (appends_nothing mid new means.0))
+      (still, (breaks means.1.0 means.1.1 means.1.2, tt))
+  line_broken X start before after store.NoMemory less means =
+      (tt, (breaks 0 (omega arith) (appends_nothing mid new means.0), refl))
 
 -- the last of some things and one more
-pub final_more : {A : Type 0} (x : A) (xs : List A) (y : A) → final x (xs ++ y ∷ []) ≡ y
-final_more x [] y = refl
-final_more x (z ∷ xs) y = final_more z xs y
+pub last_more : {A : Type 0} (x : A) (xs : List A) (y : A) → last_of x (xs ++ y ∷ []) ≡ y
+last_more x [] y = refl
+last_more x (z ∷ xs) y = last_more z xs y
 
 -- the events before the end of the next one
 pub take_next : {X : Type 0} (xs : List X) (k : ℕ) (x : X) → slice_get xs k ≡ Some x → take (k + 1) xs ≡ take k xs ++ x ∷ []

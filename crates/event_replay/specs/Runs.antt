@@ -15,6 +15,7 @@ use Rattle.emu_io.specs.Sink.{AppendsWhereTold}
 use Rattle.emu_machine.specs.declared.results.Results.{Results}
 use Rattle.emu_machine.specs.Headline.{event_values}
 use Rattle.emu_machine.specs.State.{State, net_value, run_of}
+use Rattle.settled_model.specs.Runs.{last_of}
 use Rattle.event_replay.specs.Traces.{trace_line_of, trace_of}
 
 -- what a valuation shows at the output bits of a design
@@ -33,11 +34,6 @@ settled_trace p vs = trace_of p.outputs (map (outputs_of p) vs)
 abbrev pub machine_trace : Parts → Results → List State → List ℕ
 machine_trace p r xs = trace_of p.outputs (map (spots_of r) xs)
 
--- the last of some things that follow a first one; the first one where nothing follows
-abbrev pub final : {A : Type 0} → A → List A → A
-final x [] = x
-final x (y ∷ ys) = final y ys
-
 -- A trace that breaks off in its last line: the lines before it are written whole, and some first bytes
 -- of it may follow.
 pub record BreaksOff (outputs : List Port) (shown : List (List Bool)) (old new : Option (List ℕ)) : Type 0 where
@@ -53,25 +49,32 @@ abbrev pub Shows : StoreFault → ℕ → ℕ → Type 0
 Shows store.Failed before now = Rose before now
 Shows store.NoMemory before now = Unit {0}
 
+-- a failure may leave any number of first bytes of a line; want of memory leaves none
+abbrev pub Leaves : StoreFault → ℕ → Type 0
+Leaves store.Failed count = Unit {0}
+Leaves store.NoMemory count = count ≡ 0
+
 -- the first events, so many of them, led from one valuation to another over these
 pub record HaveSettled (p : Parts) (v : Valuation) (events : List Event) (count : ℕ) (vs : List Valuation) (now : Valuation) : Type 0 where
   pub within : count ≤ length events
   pub follow : Follow p v (event_values (take count events)) vs
-  pub last : now ≡ final v vs
+  pub last : now ≡ last_of v vs
 
 -- By the answer of running events on the original: Ok where all are done and their trace is written. After
--- a fault in the line of an event, the events up to it are done, and the trace breaks off in that line.
+-- a fault in the line of an event, the events up to it are done, and the trace breaks off in that line, or
+-- before it for want of memory.
 abbrev pub SettleMeans : {X : Type 0} → Parts → List Event → Valuation → Valuation → Option (List ℕ) → Option (List ℕ) → ℕ → ℕ → Result X StoreFault → Type 0
 SettleMeans p events v now old new before after (Ok done) =
     (vs : List Valuation) × HaveSettled p v events (length events) vs now × AppendsWhereTold old (settled_trace p vs) new
 SettleMeans p events v now old new before after (Err fault) =
     Shows fault before after
-    × ((count : ℕ) × (vs : List Valuation) × HaveSettled p v events count vs now × BreaksOff p.outputs (map (outputs_of p) vs) old new)
+    × ((count : ℕ) × (vs : List Valuation) × HaveSettled p v events count vs now
+    × (broken : BreaksOff p.outputs (map (outputs_of p) vs) old new) × Leaves fault broken.count)
 
 -- the first events, so many of them, led the machine from one state to another
 pub record HasRun (r : Results) (wires : List Wire) (x : State) (events : List Event) (count : ℕ) (now : State) : Type 0 where
   pub within : count ≤ length events
-  pub last : now ≡ final x (run_of r wires x (take count events))
+  pub last : now ≡ last_of x (run_of r wires x (take count events))
 
 -- the same for the machine
 abbrev pub ReplayMeans : {X : Type 0} → Parts → Results → List Wire → List Event → State → State → Option (List ℕ) → Option (List ℕ) → ℕ → ℕ → Result X StoreFault → Type 0
@@ -79,4 +82,5 @@ ReplayMeans p r wires events x now old new before after (Ok done) =
     HasRun r wires x events (length events) now × AppendsWhereTold old (machine_trace p r (run_of r wires x events)) new
 ReplayMeans p r wires events x now old new before after (Err fault) =
     Shows fault before after
-    × ((count : ℕ) × HasRun r wires x events count now × BreaksOff p.outputs (map (spots_of r) (run_of r wires x (take count events))) old new)
+    × ((count : ℕ) × HasRun r wires x events count now
+    × (broken : BreaksOff p.outputs (map (spots_of r) (run_of r wires x (take count events))) old new) × Leaves fault broken.count)

@@ -23,7 +23,8 @@ use std::alloc::Global;
 
 /// Runs events on the machine of compiled results, and puts the line of each into the sink.
 ///
-/// After a fault the machine stands after the event whose line could not be put.
+/// After a fault the machine stands after the event whose line could not be put, and the trace breaks off
+/// in that line, or before it for want of memory.
 pub fn replay_lines<O: Sink>(
     alloc: Global,
     machine: &mut Machine<'_>,
@@ -41,6 +42,7 @@ pub fn replay_lines<O: Sink>(
     ensures results { machine.new.results ≡ machine.old.results }
     ensures inputs { length machine.new.tables.outside ≡ length machine.old.tables.outside }
     ensures means { (wires : List Wire) → ReplayMeans design.now results.now wires events.now (state machine.old) (state machine.new) (O.written out.old) (O.written out.new) (O.faults out.old) (O.faults out.new) result }
+    ensures later { O.faults out.old ≤ O.faults out.new }
 {
     design.stands();
     input_is_input_bit();

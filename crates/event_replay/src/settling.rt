@@ -21,7 +21,7 @@ use std::alloc::Global;
 /// Runs events on the original, and puts the line of each into the sink.
 ///
 /// After a fault in the line of an event, the events up to it are done, it among them, and the trace
-/// breaks off in its line.
+/// breaks off in its line, or before it for want of memory.
 pub fn settle_lines<O: Sink>(
     alloc: Global,
     settled: &mut Settled<'_>,
@@ -33,6 +33,7 @@ pub fn settle_lines<O: Sink>(
     requires inputs { (event : Event) → Contains events.now event → AreInputBits design.now event.values }
     ensures design { settled.new.parts ≡ settled.old.parts }
     ensures means { SettleMeans design.now events.now (valuation settled.old) (valuation settled.new) (O.written out.old) (O.written out.new) (O.faults out.old) (O.faults out.new) result }
+    ensures later { O.faults out.old ≤ O.faults out.new }
 {
     'events: for place in 0..events.len() {
         settle_line(alloc, settled, design, events.get(place), place + 1, out)?;
