@@ -3,7 +3,7 @@ use Rattle.std.proofs.Common.{ℕ, ◌≡◌, List, ◌∷◌, sym, ◌∙◌, s
 use Rattle.design_core.specs.declared.parts.Parts.{Parts}
 use Rattle.design_core.specs.Event.{IsHistory}
 use Rattle.design_core.specs.Valuation.{Valuation}
-use Rattle.emu_machine.specs.Acceptance.{Case, IsAccepted}
+use Rattle.emu_machine.specs.Acceptance.{Case}
 use Rattle.emu_machine.specs.Headline.{event_values}
 use Rattle.event_replay.specs.Runs.{settled_trace}
 use Rattle.trace_law.specs.Traces.{SettledTraceIsOne}
@@ -15,7 +15,7 @@ use Rattle.emu_app.specs.Command.{Reads}
 use Rattle.emu_app.specs.Fetching.{Texts}
 use Rattle.emu_app.specs.Reading.{StandFor, StandForSettle}
 use Rattle.emu_app.specs.Runs.{DesignSays, IsHistoryTrace, RecordingSays, opening_of}
-use Rattle.emu_app.specs.Answers.{Replays, Settles, SettleAndReplayAgree}
+use Rattle.emu_app.specs.Answers.{SettleAndReplayAgree}
 use Rattle.emu_app.proofs.Completing.{first_too, recorded_too}
 
 -- a case and a recording that texts stand for are what `settle` runs, of all texts that are the same for it

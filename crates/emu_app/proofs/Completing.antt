@@ -1,5 +1,5 @@
 -- A command that finds all in order ends with Ok, or there was no memory.
-use Rattle.std.proofs.Common.{ℕ, ◌≡◌, ◌<◌, ◌≤◌, ◌+◌, ◌⊎◌, inl, inr, List, [], ◌∷◌, length, Option, Some, None, IfSome, MatchOption, refl, sym, ◌∙◌, ap, subst, arith}
+use Rattle.std.proofs.Common.{ℕ, ◌≡◌, ◌<◌, ◌≤◌, inl, inr, List, [], ◌∷◌, length, Option, Some, None, IfSome, refl, sym, ◌∙◌, ap, subst, arith}
 use Rattle.emu_io.specs.Files.{Held}
 use Rattle.emu_io.specs.Faults.{Rose, max_count, risen}
 use Rattle.emu_machine.specs.Acceptance.{Case, IsAccepted}

@@ -1,5 +1,5 @@
 -- What the end of a command says at the statuses Ok, Rejected and Usage.
-use Rattle.std.proofs.Common.{ℕ, ◌≡◌, ◌≤◌, ◌⊎◌, inl, inr, List, Option, Some, None, IfSome, Result, Ok, Err, length, take, refl, sym, ap, subst, arith}
+use Rattle.std.proofs.Common.{ℕ, ◌≡◌, ◌⊎◌, inl, inr, List, Option, Some, None, IfSome, Ok, Err, refl, subst}
 use Rattle.emu_io.specs.Files.{Held}
 use Rattle.emu_machine.specs.declared.schedule.Schedule.{Schedule}
 use Rattle.emu_app.specs.declared.answer.Answer.{Answer}
@@ -11,11 +11,8 @@ use Rattle.emu_app.specs.declared.command.Command.TheVariants.{Check, Settle, Re
 use Rattle.emu_app.specs.Fetching.{AreHeld, Texts}
 use Rattle.emu_app.specs.Command.{CommandWords, IsNoCommand}
 use Rattle.emu_app.specs.Printing.{status_of, text_of}
-use Rattle.emu_io.specs.declared.files.StoreFault.{StoreFault}
 use Rattle.emu_io.specs.declared.files.StoreFault.TheVariants as store
-use Rattle.emu_io.specs.Faults.{Rose, risen, max_count}
 use Rattle.emu_io.specs.Sink.{AppendsWhereTold}
-use Rattle.emu_app.specs.declared.ending.Ending.{Ending}
 use Rattle.emu_app.specs.declared.ending.Ending.TheVariants as ending
 use Rattle.emu_app.specs.Answers.{CommandMeans, Comes, HeldMeans, HeldTrace, IsTraced, Prints, Ends, TraceMeans, TraceOf, WorkMeans, WritesTrace}
 use Rattle.emu_app.specs.Endings.{Printed}

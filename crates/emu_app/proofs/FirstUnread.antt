@@ -1,5 +1,5 @@
 -- The first text that is refused, from what is known of the texts before it.
-use Rattle.std.proofs.Common.{ℕ, ◌≡◌, ◌<◌, ◌≤◌, ◌^◌, List, length, Result, Ok, Err, refl, sym, subst, arith, lit<}
+use Rattle.std.proofs.Common.{ℕ, ◌≡◌, ◌<◌, ◌≤◌, ◌^◌, List, length, Err, sym, subst, arith, lit<}
 use Rattle.design_core.specs.declared.parts.Parts.{Parts}
 use Rattle.design_core.specs.Dependency.{IsRanked}
 use Rattle.design_core.specs.declared.values.PortBit.{PortBit}
@@ -8,8 +8,6 @@ use Rattle.event_replay.specs.Openings.{SaysOpening}
 use Rattle.emu_machine.specs.declared.netlist.Chip.{Chip}
 use Rattle.emu_machine.specs.declared.schedule.Schedule.{Schedule}
 use Rattle.result_files.specs.PlainSchedule.{SaysSchedule}
-use Rattle.result_files.specs.PlainMap.{SaysMap}
-use Rattle.result_files.specs.PlainNetlist.{TextsTellChipsApart}
 use Rattle.emu_app.specs.declared.command.Command.{Command}
 use Rattle.emu_app.specs.declared.what.What.{What}
 use Rattle.emu_app.specs.declared.what.What.TheVariants.{Design, Cells, Groups, Board, Netlist, Schedule as ScheduleText, Map, Opening, Events}
@@ -20,7 +18,7 @@ use Rattle.emu_app.specs.declared.refusal.Unread.TheVariants as unread
 use Rattle.emu_app.specs.Command.{Reads}
 use Rattle.emu_app.specs.What.{order, limit}
 use Rattle.emu_app.specs.Fetching.{Texts, AreWithin}
-use Rattle.emu_app.specs.Forms.{SaysDesign, SaysBoard, SaysNetlist}
+use Rattle.emu_app.specs.Forms.{SaysDesign, SaysNetlist}
 use Rattle.emu_app.specs.Cycles.{RankMeans}
 use Rattle.emu_app.specs.Reading.{AllMean, BoardSays, DesignMeans, EarlierAreRead, FirstUnread, IsRead, Means, NoneSaid, NotYetMeans}
 

@@ -1,12 +1,12 @@
 -- That acceptance does not hang on which test of the influence is taken: all tests say the same.
-use Rattle.std.proofs.Common.{ℕ, ◌≡◌, ◌<◌, ◌↔◌, ◌&&◌, Bool, true, false, not, Option, Some, None, is_some, IsTrue, slice_get, [], refl, sym, subst}
+use Rattle.std.proofs.Common.{ℕ, ◌≡◌, ◌↔◌, ◌&&◌, Bool, true, false, Option, Some, None, is_some, IsTrue, slice_get, [], refl, sym, subst}
 use Rattle.std.specs.Option.{option_map_or}
 use Rattle.design_core.specs.declared.node.NodeId.{NodeId}
 use Rattle.design_core.specs.Influence.{Group, all_groups, IsReached}
 use Rattle.emu_machine.specs.declared.place.Place.{Place}
 use Rattle.emu_machine.specs.declared.place.Place.TheVariants.{Chips, Gate, Weight, Frame, Action, Again, Register, Memory, Input, Element, Output, EndRegister, EndMemory, EndRead}
 use Rattle.emu_machine.specs.declared.schedule.Frame.{Frame as FrameOf}
-use Rattle.emu_machine.specs.Acceptance.{Case, Rule, A1, A2, A3, A4, A5, A6, A7, A8, A9, A10, A11, A12, Influences, Holds, IsAccepted, FailsA4, FailsA10, FailsA11, frame_differs, has_frame, sends_inside, fails_test, action_at}
+use Rattle.emu_machine.specs.Acceptance.{Case, Rule, A1, A2, A3, A4, A5, A6, A7, A8, A9, A10, A11, A12, Influences, Holds, IsAccepted, FailsA10, FailsA11, frame_differs, has_frame, sends_inside, fails_test}
 use Rattle.schedule_check.specs.Verdict.{FailsFirst}
 
 -- functions that are the same at each place are the same

@@ -1,11 +1,11 @@
 -- That texts stand for one case at most, and that a case stands.
-use Rattle.std.proofs.Common.{ℕ, ◌≡◌, ◌<◌, ◌≤◌, ◌^◌, List, [], ◌∷◌, length, Some, None, slice_get, Contains, refl, sym, ◌∙◌, ap, subst, arith}
+use Rattle.std.proofs.Common.{ℕ, ◌≡◌, List, [], ◌∷◌, Some, slice_get, refl, sym, ◌∙◌, ap, subst}
 use Rattle.verilog_lex.specs.Reads as reading
 use Rattle.verilog_tree.specs.Laws.{HasOneTree}
 use Rattle.design_core.specs.declared.parts.Parts.{Parts}
 use Rattle.design_core.specs.Design.{IsDesign}
 use Rattle.design_core.specs.Dependency.{IsRanked}
-use Rattle.design_core.specs.Influence.{Group, IsGroup}
+use Rattle.design_core.specs.Influence.{Group}
 use Rattle.elaborator.specs.GateDesign as designs
 use Rattle.board_model.specs.Answers as boards
 use Rattle.emu_machine.specs.declared.netlist.Chip.{Chip}

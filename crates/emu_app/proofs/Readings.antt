@@ -1,5 +1,5 @@
 -- That a text is read as one thing only, and what its refusals say.
-use Rattle.std.proofs.Common.{ℕ, ◌≡◌, ◌≢◌, ◌<◌, List, [], ◌∷◌, length, map, slice_get, Option, Some, None, MatchOption, Result, Ok, Err, refl, sym, ◌∙◌, ap, subst, true, arith}
+use Rattle.std.proofs.Common.{ℕ, ◌≡◌, ◌≢◌, List, [], ◌∷◌, length, map, slice_get, Some, Result, Ok, Err, refl, sym, ◌∙◌, ap, subst, true, arith}
 use Rattle.id_arena.specs.declared.wire.Wire.{Wire}
 use Rattle.id_arena.specs.BoardPlan.{BoardPlan}
 use Rattle.verilog_lex.specs.declared.token.Token.{Token}
@@ -12,7 +12,6 @@ use Rattle.verilog_tree.specs.declared.source.Source.{Source}
 use Rattle.verilog_tree.specs.Source.{Explains}
 use Rattle.verilog_tree.specs.Terminal.{terminal_at}
 use Rattle.verilog_tree.specs.Laws.{HasOneTree}
-use Rattle.verilog_tree.specs.Source.{dives}
 use Rattle.verilog_tree.specs.Grammar.{IsSource}
 use Rattle.design_core.specs.declared.parts.Parts.{Parts}
 use Rattle.elaborator.specs.GateDesign.{Describes}
@@ -21,13 +20,12 @@ use Rattle.board_model.specs.declared.fault.BoardFault.TheVariants as board
 use Rattle.board_model.specs.Answers as boards
 use Rattle.emu_machine.specs.declared.netlist.Chip.{Chip}
 use Rattle.result_files.specs.PlainNetlist.{SaysChip}
-use Rattle.emu_app.specs.declared.plan_texts.OneChip.{OneChip}
 use Rattle.emu_app.specs.declared.refusal.Refusal.TheVariants as refusal
 use Rattle.emu_app.specs.declared.refusal.Unread.{Unread}
 use Rattle.emu_app.specs.declared.refusal.Unread.TheVariants as unread
 use Rattle.emu_app.specs.declared.what.What.TheVariants.{Design}
 use Rattle.emu_app.specs.Faults.{HasNoTree, byte_of, lex_refusal, parse_refusal}
-use Rattle.emu_app.specs.Forms.{AreTokens, IsTreeOf, HasTree, SaysDesign, SaysBoard, SaysNetlist}
+use Rattle.emu_app.specs.Forms.{AreTokens, IsTreeOf, SaysDesign, SaysBoard, SaysNetlist}
 use Rattle.emu_app.specs.Reading.{DesignMeans, NoneSaid, TreeMeans}
 
 -- two answers of one text are the same

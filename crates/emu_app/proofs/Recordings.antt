@@ -1,5 +1,5 @@
 -- That texts stand for one recording of a design at most, and what holds of one that is read.
-use Rattle.std.proofs.Common.{ℕ, zero, suc, ◌≡◌, ◌<◌, List, [], ◌∷◌, length, Contains, refl, sym, ◌∙◌, ap, subst, arith}
+use Rattle.std.proofs.Common.{ℕ, zero, suc, ◌≡◌, ◌<◌, List, [], ◌∷◌, length, Contains, ◌∙◌, ap, subst, arith}
 use Rattle.std.specs.Prelude.{slice_index_or}
 use Rattle.std.specs.List.{AllZip}
 use Rattle.verilog_lex.specs.Reads as reading
@@ -17,7 +17,7 @@ use Rattle.emu_app.specs.declared.recording.Recording.{Recording}
 use Rattle.emu_app.specs.declared.what.What.TheVariants.{Design, Opening, Events}
 use Rattle.emu_app.specs.Fetching.{Texts}
 use Rattle.emu_app.specs.Forms.{SaysDesign}
-use Rattle.emu_app.specs.Reading.{IsRead, NoneSaid, StandForSettle, TextsTellRecordingsApart, TextsTellRunsApart}
+use Rattle.emu_app.specs.Reading.{IsRead, NoneSaid, TextsTellRecordingsApart, TextsTellRunsApart}
 use Rattle.emu_app.specs.Runs.{HasInputBits, RecordingSays}
 use Rattle.emu_app.proofs.OneCases.{one_design}
 

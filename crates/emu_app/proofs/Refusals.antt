@@ -1,5 +1,5 @@
 -- That texts which are refused stand for no case.
-use Rattle.std.proofs.Common.{ℕ, ◌≡◌, ◌<◌, ◌≤◌, ◌+◌, ◌++◌, List, length, map, take, drop, slice_get, Some, None, Result, Ok, Err, refl, sym, ◌∙◌, ap, subst, inl, inr, true, arith}
+use Rattle.std.proofs.Common.{ℕ, ◌≡◌, ◌<◌, ◌≤◌, ◌+◌, List, length, map, drop, Some, None, Result, Ok, Err, refl, sym, subst, inl, inr, true, arith}
 use Rattle.std.proofs.lemmas.List.{take-append-drop}
 use Rattle.std.proofs.lemmas.Bool.{cases_lt}
 use Rattle.verilog_lex.specs.declared.token.Token.{Token}

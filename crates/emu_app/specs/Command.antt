@@ -1,6 +1,6 @@
 -- The words of commands.
 -- The rule is told in docs/FORMATS.md, "Commands".
-use Rattle.std.specs.Prelude.{◌≡◌, ◌<◌, ℕ, ◌==◌, Bool, true, false, if◌then◌else◌, List, [], ◌∷◌, codes, length, slice_get, unwrap_or}
+use Rattle.std.specs.Prelude.{◌≡◌, ◌<◌, ℕ, ◌==◌, if◌then◌else◌, List, [], ◌∷◌, codes, length, slice_get, unwrap_or}
 use Rattle.emu_app.specs.declared.command.Command.{Command}
 use Rattle.emu_app.specs.declared.command.Command.TheVariants.{Check, Settle, Replay}
 use Rattle.emu_app.specs.declared.command.CommandNames.{CommandNames}

@@ -2,7 +2,6 @@ use Rattle.emu_app.specs.declared.command.Command.TheVariants.{Check}
 use Rattle.emu_app.specs.declared.what.What.TheVariants.{Design}
 use Rattle.emu_app.specs.Fetching.{texts_of}
 use Rattle.emu_app.specs.Forms.{SaysDesign}
-use Rattle.emu_app.specs.Reading.{ResultsSay}
 use Rattle.emu_app.proofs.OneCases.{reads_case, results_stand}
 use Rattle.emu_app.proofs.check.judge_read.Goals as goal
 

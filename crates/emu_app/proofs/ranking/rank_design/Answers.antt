@@ -1,5 +1,4 @@
-use Rattle.std.proofs.Common.{rules, ◌≡◌, subst, sym, Err}
-use Rattle.clock_rank.specs.Answers.{Answers}
+use Rattle.std.proofs.Common.{rules}
 use Rattle.clock_rank.specs.Cycles.{IsCycle}
 use Rattle.emu_app.proofs.Circles.{circle_node}
 use Rattle.emu_app.proofs.ranking.rank_design.Goals as goal

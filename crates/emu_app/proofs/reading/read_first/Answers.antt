@@ -3,7 +3,7 @@ use Rattle.emu_app.specs.declared.what.What.TheVariants.{Design}
 use Rattle.emu_app.specs.Fetching.{texts_of}
 use Rattle.emu_app.specs.Forms.{SaysDesign}
 use Rattle.emu_app.specs.Reading.{AllMean, DesignMeans}
-use Rattle.emu_app.proofs.FirstUnread.{short_text, refused_design}
+use Rattle.emu_app.proofs.FirstUnread.{refused_design}
 use Rattle.emu_app.proofs.reading.read_first.Goals as goal
 
 pub returns-in_err-design : goal.returns-in_err-design

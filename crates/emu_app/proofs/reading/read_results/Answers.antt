@@ -5,7 +5,7 @@ use Rattle.emu_app.specs.declared.what.What.TheVariants.{Netlist, Schedule, Map}
 use Rattle.emu_app.specs.Fetching.{texts_of}
 use Rattle.emu_app.specs.Forms.{SaysNetlist}
 use Rattle.emu_app.specs.Reading.{AllMean, Means, ResultsSay}
-use Rattle.emu_app.proofs.FirstUnread.{short_text, refused_as, before_netlist, before_schedule, before_map}
+use Rattle.emu_app.proofs.FirstUnread.{refused_as, before_netlist, before_schedule, before_map}
 use Rattle.emu_app.proofs.OneCases.{one_netlist}
 use Rattle.emu_app.proofs.reading.read_results.Goals as goal
 
