@@ -1,9 +1,8 @@
 //! The parts that a module of `buf` and `not` gates stands for.
 
-ghost use Rattle.std.specs.Prelude.{[], ◌++◌, ◌≡◌, ◌≤◌, ◌∷◌, Some, None, codes, filter, filter_map, flat_map, length, map, IfOk, OnOk};
-ghost use Rattle.elaborator.specs.GateParts.{top_name};
-ghost use Rattle.elaborator.specs.GateNames.{is_among, is_implicit, text_of};
-ghost use Rattle.elaborator.specs.GateParts.{as_element, gate_of, net_of, own_names, own_scope, port_of, ports_among, scopes_after, terminals};
+ghost use Rattle.std.specs.Prelude.{[], ◌++◌, ◌||◌, ◌≡◌, ◌≤◌, ◌∷◌, Some, None, codes, filter, filter_map, flat_map, length, map, IfOk, OnOk};
+ghost use Rattle.elaborator.specs.GateNames.{all_among, is_among, is_declared, is_implicit, text_of};
+ghost use Rattle.elaborator.specs.GateParts.{as_element, gate_of, net_of, own_scope, port_of, ports_among, scopes_after, terminals, top_name};
 
 use crate::gate_names::{is_among, is_implicit, text_at};
 use crate::gate_sketch::Primitive;
@@ -27,46 +26,56 @@ pub(crate) struct NumberedGate {
     input: NetId,
 }
 
-/// The terminals of primitives in the order of the text.
-pub(crate) fn terminals(alloc: Global, primitives: &[Primitive]) -> Result<List<u32>, NoMemory>
-    ensures { IfOk result (λ places. places ≡ terminals primitives.now) }
+/// Puts a terminal behind others, where an undeclared name becomes a wire at it.
+fn add_implicit(chosen: &mut List<u32>, tokens: &Tokens, place: u32) -> Result<(), NoMemory>
+    ensures { OnOk result (chosen.new ≡ chosen.old ++ filter (is_implicit tokens.now) (place ∷ [])) }
 {
-    let mut places = List::new(alloc);
-    'primitives: for primitive in primitives {
-        places.push(primitive.output)?;
-        places.push(primitive.input)?;
+    if is_implicit(tokens, place) {
+        chosen.push(place)?;
     }
-    Ok(places)
+    Ok(())
 }
 
-/// Those tokens at which an undeclared name becomes a wire.
+/// Those terminals of primitives at which an undeclared name becomes a wire, in the order of the text.
 pub(crate) fn implicit_places(
     alloc: Global,
     tokens: &Tokens,
-    places: &[u32],
+    primitives: &[Primitive],
 ) -> Result<List<u32>, NoMemory>
-    ensures { IfOk result (λ chosen. chosen ≡ filter (is_implicit tokens.now) places.now) }
+    ensures { IfOk result (λ chosen. chosen ≡ filter (is_implicit tokens.now) (terminals primitives.now)) }
 {
     let mut chosen = List::new(alloc);
-    'places: for place in places {
-        if is_implicit(tokens, *place) {
-            chosen.push(*place)?;
-        }
+    'primitives: for primitive in primitives {
+        add_implicit(&mut chosen, tokens, primitive.output)?;
+        add_implicit(&mut chosen, tokens, primitive.input)?;
     }
     Ok(chosen)
 }
 
-/// The names of those primitives that have one.
-pub(crate) fn own_names(alloc: Global, primitives: &[Primitive]) -> Result<List<u32>, NoMemory>
-    ensures { IfOk result (λ places. places ≡ own_names primitives.now) }
+/// Whether an undeclared name becomes a wire at a terminal, or its name is that of a net.
+fn has_net(nets: &Names, source: &[u8], tokens: &Tokens, place: u32) -> bool
+    ensures { result ≡ (is_implicit tokens.now place || is_among nets.now (text_of source.now tokens.now place)) }
 {
-    let mut places = List::new(alloc);
+    is_implicit(tokens, place) || is_among(nets, text_at(source, tokens, place))
+}
+
+/// Whether all terminals of primitives are nets at which no undeclared name becomes a wire.
+pub(crate) fn are_declared(
+    nets: &Names,
+    source: &[u8],
+    tokens: &Tokens,
+    primitives: &[Primitive],
+) -> bool
+    ensures { result ≡ all_among nets.now (map (text_of source.now tokens.now) (filter (is_declared tokens.now) (terminals primitives.now))) }
+{
     'primitives: for primitive in primitives {
-        if let Some(name) = primitive.name {
-            places.push(name)?;
+        if !has_net(nets, source, tokens, primitive.output)
+            || !has_net(nets, source, tokens, primitive.input)
+        {
+            return false;
         }
     }
-    Ok(places)
+    true
 }
 
 /// The net of a name; net 0 where no net has it.
