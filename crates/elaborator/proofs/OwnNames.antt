@@ -1,7 +1,5 @@
 -- Names of primitives, one after another, which are different and no nets.
-use Rattle.std.proofs.Common.{◌≡◌, ◌+◌, ◌<◌, ℕ, Bool, true, false, not, ◌&&◌, List, [], ◌∷◌, ◌++◌, Option, Some, None, add-one, ap, append-nil, append_assoc, drop, drop-cons, get_or, length, map, refl, subst, sym, ◌∙◌, Err, Ok}
-use Rattle.std.specs.List.{list_all}
-use Rattle.std.specs.Prelude.{IsTrue, filter_map}
+use Rattle.std.proofs.Common.{◌≡◌, ◌+◌, ◌<◌, ℕ, Bool, true, false, not, ◌&&◌, List, [], ◌∷◌, ◌++◌, Some, None, add-one, ap, append_assoc, drop, drop-cons, get_or, length, map, refl, subst, sym, ◌∙◌, Err, Ok}
 use Rattle.std.proofs.lemmas.Bool.{false_from_ne_true}
 use Rattle.elaborator.specs.declared.fault.ElabFault.{ElabFault}
 use Rattle.elaborator.specs.declared.fault.ElabFault.TheVariants.{NotYet, NoMemory}

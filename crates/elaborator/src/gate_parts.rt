@@ -26,6 +26,15 @@ pub(crate) struct NumberedGate {
     input: NetId,
 }
 
+/// An empty list with room for so many items. A long list that grows by itself is copied as it grows,
+/// and takes more than it needs.
+fn list_with_room<T: Drop>(alloc: Global, room: usize) -> Result<List<T>, NoMemory>
+    ensures { IfOk result (λ items. items ≡ []) }
+{
+    let items = Vec::with_capacity(alloc, room)?;
+    Ok(List::from_vec(items))
+}
+
 /// Puts a terminal behind others, where an undeclared name becomes a wire at it.
 fn add_implicit(chosen: &mut List<u32>, tokens: &Tokens, place: u32) -> Result<(), NoMemory>
     ensures { OnOk result (chosen.new ≡ chosen.old ++ filter (is_implicit tokens.now) (place ∷ [])) }
@@ -109,7 +118,7 @@ pub(crate) fn gate_list(
     requires { length nets.now ≤ 399998 }
     ensures { IfOk result (λ gates. gates ≡ map (gate_of (text_of source.now tokens.now) nets.now) primitives.now) }
 {
-    let mut gates = List::new(alloc);
+    let mut gates = list_with_room(alloc, primitives.len())?;
     'primitives: for primitive in primitives {
         gates.push(NumberedGate {
             op: primitive.op,
@@ -124,7 +133,7 @@ pub(crate) fn gate_list(
 pub(crate) fn elements(alloc: Global, gates: &[NumberedGate]) -> Result<List<Element>, NoMemory>
     ensures { IfOk result (λ elements. elements ≡ map as_element gates.now) }
 {
-    let mut elements = List::new(alloc);
+    let mut elements = list_with_room(alloc, gates.len())?;
     'gates: for gate in gates {
         elements.push(Element::Gate {
             op: gate.op,
@@ -141,7 +150,7 @@ pub(crate) fn paths(alloc: Global, primitives: &[Primitive]) -> Result<List<u32>
     requires { length primitives.now ≤ 200000 }
     ensures { IfOk result (λ paths. paths ≡ scopes_after 0 primitives.now) }
 {
-    let mut paths = List::new(alloc);
+    let mut paths = list_with_room(alloc, primitives.len())?;
     let mut named = 0;
     'primitives: for primitive in primitives {
         if primitive.name.is_some() {
@@ -169,7 +178,7 @@ fn top_name(alloc: Global, text: &[u8]) -> Result<NetName, NoMemory>
 pub(crate) fn net_list(alloc: Global, nets: Names) -> Result<List<NetName>, NoMemory>
     ensures { IfOk result (λ names. names ≡ top_name (codes "1'b0") ∷ top_name (codes "1'b1") ∷ map top_name nets) }
 {
-    let mut names = List::new(alloc);
+    let mut names = list_with_room(alloc, nets.len() as usize + 2)?;
     names.push(top_name(alloc, b"1'b0")?)?;
     names.push(top_name(alloc, b"1'b1")?)?;
     'nets: for place in 0..nets.len() {
@@ -182,7 +191,7 @@ pub(crate) fn net_list(alloc: Global, nets: Names) -> Result<List<NetName>, NoMe
 pub(crate) fn scope_list(alloc: Global, top: &[u8], own: Names) -> Result<List<Scope>, NoMemory>
     ensures { IfOk result (λ scopes. scopes ≡ record { parent = None; name = top.now } ∷ map own_scope own) }
 {
-    let mut scopes = List::new(alloc);
+    let mut scopes = list_with_room(alloc, own.len() as usize + 1)?;
     scopes.push(Scope {
         parent: None,
         name: Text::from_bytes(alloc, top)?,
