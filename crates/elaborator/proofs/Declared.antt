@@ -31,14 +31,11 @@ others_decide nets text chosen (place ∷ places) there = go (chosen place) (oth
     go false rest e = ap (λ b. is_among nets (text place) && b) (rest e)
 
 -- so looking up those tells whether all are there
-pub decided : (nets : List Name) (text : ℕ → Name) (chosen : ℕ → Bool) (all places slice : List ℕ) (answer : Bool)
-    → all_among nets (map text (filter chosen all)) ≡ true → places ≡ all → slice ≡ places
-    → answer ≡ all_among nets (map text (filter (λ place. not (chosen place)) slice))
-    → answer ≡ all_among nets (map text all)
-decided nets text chosen all places slice answer there is same told =
-    told
-    ∙ ap (λ ps. all_among nets (map text (filter (λ place. not (chosen place)) ps))) (same ∙ is)
-    ∙ others_decide nets text chosen all there
+pub decided : (nets : List Name) (text : ℕ → Name) (chosen : ℕ → Bool) (places : List ℕ) (answer : Bool)
+    → all_among nets (map text (filter chosen places)) ≡ true
+    → answer ≡ all_among nets (map text (filter (λ place. not (chosen place)) places))
+    → answer ≡ all_among nets (map text places)
+decided nets text chosen places answer there told = told ∙ others_decide nets text chosen places there
 
 itself : (name : Name) → bytes_eq name name ≡ true
 itself name = (bytes_eq-Decides name name).1 refl

@@ -1,12 +1,11 @@
 -- The parts of a module from the tables of its names.
-use Rattle.std.proofs.Common.{◌≡◌, ◌≤◌, ℕ, Bool, true, ◌&&◌, cond, nat_le, List, [], ◌∷◌, ◌++◌, Option, Some, None, ap, arith, length, map, refl, subst, sym, ◌∙◌, append_assoc}
+use Rattle.std.proofs.Common.{◌≡◌, ◌≤◌, ℕ, Bool, true, ◌&&◌, cond, nat_le, List, [], ◌∷◌, ◌++◌, Option, Some, None, ap, arith, length, map, refl, sym, ◌∙◌, append_assoc}
 use Rattle.std.specs.Prelude.{codes, filter}
 use Rattle.std.specs.List.{list_all}
 use Rattle.std.proofs.lemmas.List.{length-map, map-append}
 use Rattle.design_core.specs.Limits.{IsWithin, inputs_within, most_inputs}
 use Rattle.design_core.specs.declared.operation.Op.{Op}
 use Rattle.design_core.specs.declared.operation.Op.TheVariants.{Table}
-use Rattle.design_core.specs.declared.parts.Parts.{Parts}
 use Rattle.design_core.specs.declared.parts.Port.{Port}
 use Rattle.elaborator.specs.declared.gate_sketch.Primitive.{Primitive}
 use Rattle.elaborator.specs.declared.gate_sketch.Sketch.{Sketch}
@@ -27,9 +26,8 @@ ports_chosen nets header given none chosen ports empty table is =
     ap (λ names. Some (map (port_of nets) names)) (filter-same (is_among given) (is_among chosen) among header) ∙ ap Some (sym is)
 
 -- a table of three lists of names, put in one after another
-pub table_of_nets : (text : ℕ → Name) (implicit : ℕ → Bool) (header : List ℕ) (s : Sketch) (places wires : List ℕ) (none one two all : List Name) → places ≡ terminals s.primitives → wires ≡ filter implicit places → none ≡ [] → one ≡ with_names none (map text header) → two ≡ with_names one (map text s.wires) → all ≡ with_names two (map text wires) → all ≡ net_names text implicit header s
-table_of_nets text implicit header s places wires none one two all places-is wires-is empty e f g =
-    let chosen : wires ≡ filter implicit (terminals s.primitives) = wires-is ∙ ap (λ ps. filter implicit ps) places-is in
+pub table_of_nets : (text : ℕ → Name) (implicit : ℕ → Bool) (header : List ℕ) (s : Sketch) (wires : List ℕ) (none one two all : List Name) → wires ≡ filter implicit (terminals s.primitives) → none ≡ [] → one ≡ with_names none (map text header) → two ≡ with_names one (map text s.wires) → all ≡ with_names two (map text wires) → all ≡ net_names text implicit header s
+table_of_nets text implicit header s wires none one two all chosen empty e f g =
     let first : one ≡ first_uses (map text header) = e ∙ ap (λ ns. with_names ns (map text header)) empty ∙ first_uses-all (map text header) in
     let second : two ≡ first_uses (map text header ++ map text s.wires) = f ∙ ap (λ ns. with_names ns (map text s.wires)) first ∙ first_uses-append (map text header) (map text s.wires) in
     let third = g ∙ ap (λ ns. with_names ns (map text wires)) second ∙ first_uses-append (map text header ++ map text s.wires) (map text wires) in

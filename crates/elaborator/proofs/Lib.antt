@@ -5,6 +5,7 @@ pub mod GoodParts
 pub mod Joining
 pub mod NoConstants
 pub mod OneReading
+pub mod OwnNames
 pub mod Paths
 pub mod Places
 pub mod PlainGates

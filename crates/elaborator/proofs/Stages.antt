@@ -1,5 +1,5 @@
 -- The parts of a tree by way of its lists and their numbers.
-use Rattle.std.proofs.Common.{◌≡◌, ◌≤◌, ℕ, Bool, List, Ok, Err, ap, arith, length, map, subst, sym, ◌∙◌}
+use Rattle.std.proofs.Common.{◌≡◌, ℕ, Bool, List, Ok, Err, ap, arith, map, subst, sym, ◌∙◌}
 use Rattle.std.proofs.lemmas.List.{length-map}
 use Rattle.verilog_lex.specs.declared.token.Token.{Token}
 use Rattle.verilog_tree.specs.declared.source.Source.{Source}
@@ -10,7 +10,7 @@ use Rattle.elaborator.specs.declared.fault.ElabFault.TheVariants.{NotYet, NoMemo
 use Rattle.elaborator.specs.declared.gate_design.Numbers.{Numbers}
 use Rattle.elaborator.specs.declared.gate_sketch.Lists.{Lists}
 use Rattle.elaborator.specs.declared.gate_sketch.Sketch.{Sketch}
-use Rattle.elaborator.specs.GateDesign.{AreFew, AreListed, ListsAnswers, NumbersAnswers, PartsAnswers, StandsFor, parts_from}
+use Rattle.elaborator.specs.GateDesign.{AreFew, AreListed, ListsAnswers, NumbersAnswers, PartsAnswers, parts_from}
 use Rattle.elaborator.specs.GateNames.{Name, is_implicit, text_of}
 use Rattle.elaborator.specs.GateParts.{AreNamed, element_of, net_names, own_names, parts_of, top_name}
 use Rattle.elaborator.proofs.Joining.{joined_parts, within_limits}

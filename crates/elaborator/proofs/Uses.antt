@@ -83,6 +83,10 @@ pub grows : (names new : List Name) (name : Name) → new ≡ with_name names na
 grows names new name is more =
     false_from_ne_true (is_among names name) (λ among. more (ap length (is ∙ with_name-is names name ∙ ap (λ b. cond b names (names ++ name ∷ [])) among)))
 
+-- a name that was not among them goes last
+pub put_last : (names new : List Name) (name : Name) → new ≡ with_name names name → is_among names name ≡ false → new ≡ names ++ name ∷ []
+put_last names new name is fresh = is ∙ with_name-is names name ∙ ap (λ b. cond b names (names ++ name ∷ [])) fresh
+
 -- the names so far are different, and with those that are left they are all names
 pub record SoFar (names left all : List Name) : Type 0 where
   pub different : AreDifferent names
@@ -98,7 +102,7 @@ so_far_twice names left rest all name s e among d =
 
 pub so_far_more : (names left rest all new : List Name) (name : Name) → SoFar names left all → left ≡ name ∷ rest → is_among names name ≡ false → new ≡ with_name names name → SoFar new rest all
 so_far_more names left rest all new name s e fresh is =
-    let last : new ≡ names ++ name ∷ [] = is ∙ with_name-is names name ∙ ap (λ b. cond b names (names ++ name ∷ [])) fresh in
+    let last : new ≡ names ++ name ∷ [] = put_last names new name is fresh in
     record {
       different = rw last (pushed names name s.different fresh);
       together = ap (λ l. l ++ rest) last ∙ append_assoc names (name ∷ []) rest ∙ ap (λ l. names ++ l) (sym e) ∙ s.together;

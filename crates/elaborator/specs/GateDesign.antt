@@ -1,6 +1,6 @@
 -- Which trees stand for which parts and designs: one module of `buf` and `not` gates.
 -- The rule is told in docs/FORMATS.md, "Flattening".
-use Rattle.std.specs.Prelude.{◌≡◌, ◌<◌, ◌≤◌, ℕ, Bool, IsTrue, Some, None, List, [], ◌∷◌, codes, length, map, Result, Ok, Err}
+use Rattle.std.specs.Prelude.{◌≡◌, ◌<◌, ◌≤◌, ℕ, Bool, false, IsTrue, Some, None, List, [], ◌∷◌, ◌++◌, codes, length, map, Result, Ok, Err}
 use Rattle.verilog_lex.specs.declared.token.Token.{Token}
 use Rattle.verilog_tree.specs.declared.source.Module.{Module}
 use Rattle.verilog_tree.specs.declared.source.Source.{Source}
@@ -14,7 +14,7 @@ use Rattle.elaborator.specs.declared.gate_design.Numbers.{Numbers}
 use Rattle.elaborator.specs.declared.gate_design.Tables.{Tables}
 use Rattle.elaborator.specs.declared.gate_sketch.Lists.{Lists}
 use Rattle.elaborator.specs.declared.gate_sketch.Sketch.{Sketch}
-use Rattle.elaborator.specs.GateNames.{AreDifferent, Name, is_implicit, none_among, text_of}
+use Rattle.elaborator.specs.GateNames.{AreDifferent, Name, is_among, is_implicit, none_among, text_of}
 use Rattle.elaborator.specs.GateParts.{AreNamed, as_element, gate_of, net_names, own_names, own_scope, parts_of, path_of, ports_among, top_name}
 use Rattle.elaborator.specs.GateSketch.{bare_port, each, sketch_of}
 
@@ -80,6 +80,12 @@ NetTable names (Err NoMemory) = Unit {0}
 pub record AreOwn (nets names : List Name) : Type 0 where
   pub once : AreDifferent names
   pub apart : IsTrue (none_among nets names)
+
+-- a name put behind those of others, where it is none of them and no net
+abbrev pub AddsOwn : List Name → List Name → List Name → Name → Result (Unit {0}) ElabFault → Type 0
+AddsOwn nets old new name (Ok done) = (new ≡ old ++ name ∷ []) × (is_among old name ≡ false) × (is_among nets name ≡ false)
+AddsOwn nets old new name (Err NotYet) = is_among old name ≡ false → is_among nets name ≡ false → ⊥
+AddsOwn nets old new name (Err NoMemory) = Unit {0}
 
 abbrev pub OwnTable : List Name → List Name → Result (List Name) ElabFault → Type 0
 OwnTable nets names (Ok table) = (table ≡ names) × AreOwn nets names

@@ -1,18 +1,16 @@
 //! Reading a module of `buf` and `not` gates from its tree.
 
 ghost use Rattle.std.specs.Prelude.{◌↔◌, ◌≡◌, ◌≤◌, Some, filter, length, map, IfOk, IsTrue};
-ghost use Rattle.elaborator.specs.GateDesign.{Answers, GateDesignsArePlain, Judges, ListsAnswers, NetTable, NumbersAnswers, OwnTable, PartsAnswers, TablesAnswers, TreesTellDesignsApart, numbers_by, parts_from};
+ghost use Rattle.elaborator.specs.GateDesign.{AddsOwn, Answers, GateDesignsArePlain, Judges, ListsAnswers, NetTable, NumbersAnswers, OwnTable, PartsAnswers, TablesAnswers, TreesTellDesignsApart, numbers_by, parts_from};
 ghost use Rattle.elaborator.specs.GateNames.{AreDifferent, all_among, is_implicit, text_of};
 ghost use Rattle.elaborator.specs.GateParts.{ArePorts, net_names, own_names, ports_among, terminals};
 ghost use Rattle.elaborator.specs.GateSketch.{Reads};
 
 use crate::fault::ElabFault;
-use crate::gate_names::{
-    add_names, are_all_among, are_declared, are_none_among, distinct_names, text_at,
-};
+use crate::gate_names::{add_names, are_all_among, distinct_names, is_among, text_at};
 use crate::gate_parts::{
-    ELEMENT_LIMIT, NAME_LIMIT, NumberedGate, elements, gate_list, implicit_places, net_list,
-    own_names, paths, ports_among, scope_list, terminals,
+    ELEMENT_LIMIT, NAME_LIMIT, NumberedGate, are_declared, elements, gate_list, implicit_places,
+    net_list, paths, ports_among, scope_list,
 };
 use crate::gate_sketch::{Lists, Primitive, Sketch, append, header_of, sketch_of};
 use design_core::{Design, DesignFault, Parts, Port};
@@ -74,8 +72,7 @@ fn all_nets(
 ) -> Result<Names, ElabFault>
     ensures { Reads (Some (net_names (text_of source.now tokens.now) (is_implicit tokens.now) header.now sketch.now)) result }
 {
-    let places = terminals(alloc, sketch.primitives.as_slice())?;
-    let wires = implicit_places(alloc, tokens, places.as_slice())?;
+    let wires = implicit_places(alloc, tokens, sketch.primitives.as_slice())?;
     let mut nets = Names::new(alloc);
     add_names(&mut nets, source, tokens, header)?;
     add_names(&mut nets, source, tokens, sketch.wires.as_slice())?;
@@ -100,7 +97,22 @@ fn net_table(
     Ok(nets)
 }
 
-/// The table of the names of primitives.
+/// Puts the name of a primitive behind those of others, where it is none of them and no net.
+fn add_own(own: &mut Names, nets: &Names, name: &[u8]) -> Result<(), ElabFault>
+    ensures { AddsOwn nets.now own.old own.new name.now result }
+{
+    if is_among(nets, name) {
+        return Err(ElabFault::NotYet);
+    }
+    let count = own.len();
+    own.intern(name)?;
+    if own.len() == count {
+        return Err(ElabFault::NotYet);
+    }
+    Ok(())
+}
+
+/// The table of the names of those primitives that have one.
 fn own_table(
     alloc: Global,
     source: &[u8],
@@ -110,10 +122,11 @@ fn own_table(
 ) -> Result<Names, ElabFault>
     ensures { OwnTable nets.now (map (text_of source.now tokens.now) (own_names primitives.now)) result }
 {
-    let places = own_names(alloc, primitives)?;
-    let own = distinct_names(alloc, source, tokens, places.as_slice())?;
-    if !are_none_among(nets, source, tokens, places.as_slice()) {
-        return Err(ElabFault::NotYet);
+    let mut own = Names::new(alloc);
+    'primitives: for primitive in primitives {
+        if let Some(place) = primitive.name {
+            add_own(&mut own, nets, text_at(source, tokens, place))?;
+        }
     }
     Ok(own)
 }
@@ -121,7 +134,6 @@ fn own_table(
 /// Judges the terminals of primitives. Those at which an undeclared name becomes a wire are nets, so
 /// that only the others are looked up.
 fn check_terminals(
-    alloc: Global,
     source: &[u8],
     tokens: &Tokens,
     nets: &Names,
@@ -130,8 +142,7 @@ fn check_terminals(
     requires { IsTrue (all_among nets.now (map (text_of source.now tokens.now) (filter (is_implicit tokens.now) (terminals primitives.now)))) }
     ensures { Judges (IsTrue (all_among nets.now (map (text_of source.now tokens.now) (terminals primitives.now)))) result }
 {
-    let places = terminals(alloc, primitives)?;
-    if !are_declared(nets, source, tokens, places.as_slice()) {
+    if !are_declared(nets, source, tokens, primitives) {
         return Err(ElabFault::NotYet);
     }
     Ok(())
@@ -209,7 +220,7 @@ fn name_tables(
     distinct_names(alloc, source, tokens, sketch.wires.as_slice())?;
     let nets = net_table(alloc, source, tokens, header, sketch)?;
     let primitives = sketch.primitives.as_slice();
-    check_terminals(alloc, source, tokens, &nets, primitives)?;
+    check_terminals(source, tokens, &nets, primitives)?;
     let own = own_table(alloc, source, tokens, &nets, primitives)?;
     Ok(Tables { nets, own })
 }

@@ -1,7 +1,7 @@
 //! Tables of the names at some tokens.
 
-ghost use Rattle.std.specs.Prelude.{◌≡◌, filter, map, IfOk, OnOk};
-ghost use Rattle.elaborator.specs.GateNames.{OnceEach, all_among, is_among, is_declared, is_implicit, none_among, text_of, with_names};
+ghost use Rattle.std.specs.Prelude.{◌≡◌, map, IfOk, OnOk};
+ghost use Rattle.elaborator.specs.GateNames.{OnceEach, all_among, is_among, is_implicit, text_of, with_names};
 
 use crate::fault::ElabFault;
 use emu_io::NoMemory;
@@ -73,31 +73,6 @@ pub(crate) fn are_all_among(names: &Names, source: &[u8], tokens: &Tokens, place
 {
     'places: for place in places {
         if !is_among(names, text_at(source, tokens, *place)) {
-            return false;
-        }
-    }
-    true
-}
-
-/// Whether all names are in a table that stand at some tokens at which an undeclared name does not
-/// become a wire.
-pub(crate) fn are_declared(names: &Names, source: &[u8], tokens: &Tokens, places: &[u32]) -> bool
-    ensures { result ≡ all_among names.now (map (text_of source.now tokens.now) (filter (is_declared tokens.now) places.now)) }
-{
-    'places: for place in places {
-        if !is_implicit(tokens, *place) && !is_among(names, text_at(source, tokens, *place)) {
-            return false;
-        }
-    }
-    true
-}
-
-/// Whether no name at some tokens is in a table.
-pub(crate) fn are_none_among(names: &Names, source: &[u8], tokens: &Tokens, places: &[u32]) -> bool
-    ensures { result ≡ none_among names.now (map (text_of source.now tokens.now) places.now) }
-{
-    'places: for place in places {
-        if is_among(names, text_at(source, tokens, *place)) {
             return false;
         }
     }

@@ -1,9 +1,8 @@
 //! The parts that a module of `buf` and `not` gates stands for.
 
-ghost use Rattle.std.specs.Prelude.{[], ◌++◌, ◌≡◌, ◌≤◌, ◌∷◌, Some, None, codes, filter, filter_map, flat_map, length, map, IfOk, OnOk};
-ghost use Rattle.elaborator.specs.GateParts.{top_name};
-ghost use Rattle.elaborator.specs.GateNames.{is_among, is_implicit, text_of};
-ghost use Rattle.elaborator.specs.GateParts.{as_element, gate_of, net_of, own_names, own_scope, port_of, ports_among, scopes_after, terminals};
+ghost use Rattle.std.specs.Prelude.{[], ◌++◌, ◌||◌, ◌≡◌, ◌≤◌, ◌∷◌, Some, None, codes, filter, filter_map, flat_map, length, map, IfOk, OnOk};
+ghost use Rattle.elaborator.specs.GateNames.{all_among, is_among, is_declared, is_implicit, text_of};
+ghost use Rattle.elaborator.specs.GateParts.{as_element, gate_of, net_of, own_scope, port_of, ports_among, scopes_after, terminals, top_name};
 
 use crate::gate_names::{is_among, is_implicit, text_at};
 use crate::gate_sketch::Primitive;
@@ -27,46 +26,65 @@ pub(crate) struct NumberedGate {
     input: NetId,
 }
 
-/// The terminals of primitives in the order of the text.
-pub(crate) fn terminals(alloc: Global, primitives: &[Primitive]) -> Result<List<u32>, NoMemory>
-    ensures { IfOk result (λ places. places ≡ terminals primitives.now) }
+/// An empty list with room for so many items. A long list that grows by itself is copied as it grows,
+/// and takes more than it needs.
+fn list_with_room<T: Drop>(alloc: Global, room: usize) -> Result<List<T>, NoMemory>
+    ensures { IfOk result (λ items. items ≡ []) }
 {
-    let mut places = List::new(alloc);
-    'primitives: for primitive in primitives {
-        places.push(primitive.output)?;
-        places.push(primitive.input)?;
-    }
-    Ok(places)
+    let items = Vec::with_capacity(alloc, room)?;
+    Ok(List::from_vec(items))
 }
 
-/// Those tokens at which an undeclared name becomes a wire.
+/// Puts a terminal behind others, where an undeclared name becomes a wire at it.
+fn add_implicit(chosen: &mut List<u32>, tokens: &Tokens, place: u32) -> Result<(), NoMemory>
+    ensures { OnOk result (chosen.new ≡ chosen.old ++ filter (is_implicit tokens.now) (place ∷ [])) }
+{
+    if is_implicit(tokens, place) {
+        chosen.push(place)?;
+    }
+    Ok(())
+}
+
+/// Those terminals of primitives at which an undeclared name becomes a wire, in the order of the text.
 pub(crate) fn implicit_places(
     alloc: Global,
     tokens: &Tokens,
-    places: &[u32],
+    primitives: &[Primitive],
 ) -> Result<List<u32>, NoMemory>
-    ensures { IfOk result (λ chosen. chosen ≡ filter (is_implicit tokens.now) places.now) }
+    ensures { IfOk result (λ chosen. chosen ≡ filter (is_implicit tokens.now) (terminals primitives.now)) }
 {
     let mut chosen = List::new(alloc);
-    'places: for place in places {
-        if is_implicit(tokens, *place) {
-            chosen.push(*place)?;
-        }
+    'primitives: for primitive in primitives {
+        add_implicit(&mut chosen, tokens, primitive.output)?;
+        add_implicit(&mut chosen, tokens, primitive.input)?;
     }
     Ok(chosen)
 }
 
-/// The names of those primitives that have one.
-pub(crate) fn own_names(alloc: Global, primitives: &[Primitive]) -> Result<List<u32>, NoMemory>
-    ensures { IfOk result (λ places. places ≡ own_names primitives.now) }
+/// Whether an undeclared name becomes a wire at a terminal, or its name is that of a net.
+fn has_net(nets: &Names, source: &[u8], tokens: &Tokens, place: u32) -> bool
+    ensures { result ≡ (is_implicit tokens.now place || is_among nets.now (text_of source.now tokens.now place)) }
 {
-    let mut places = List::new(alloc);
+    is_implicit(tokens, place) || is_among(nets, text_at(source, tokens, place))
+}
+
+/// Whether all terminals of primitives are nets at which no undeclared name becomes a wire.
+pub(crate) fn are_declared(
+    nets: &Names,
+    source: &[u8],
+    tokens: &Tokens,
+    primitives: &[Primitive],
+) -> bool
+    ensures { result ≡ all_among nets.now (map (text_of source.now tokens.now) (filter (is_declared tokens.now) (terminals primitives.now))) }
+{
     'primitives: for primitive in primitives {
-        if let Some(name) = primitive.name {
-            places.push(name)?;
+        if !has_net(nets, source, tokens, primitive.output)
+            || !has_net(nets, source, tokens, primitive.input)
+        {
+            return false;
         }
     }
-    Ok(places)
+    true
 }
 
 /// The net of a name; net 0 where no net has it.
@@ -100,7 +118,7 @@ pub(crate) fn gate_list(
     requires { length nets.now ≤ 399998 }
     ensures { IfOk result (λ gates. gates ≡ map (gate_of (text_of source.now tokens.now) nets.now) primitives.now) }
 {
-    let mut gates = List::new(alloc);
+    let mut gates = list_with_room(alloc, primitives.len())?;
     'primitives: for primitive in primitives {
         gates.push(NumberedGate {
             op: primitive.op,
@@ -115,7 +133,7 @@ pub(crate) fn gate_list(
 pub(crate) fn elements(alloc: Global, gates: &[NumberedGate]) -> Result<List<Element>, NoMemory>
     ensures { IfOk result (λ elements. elements ≡ map as_element gates.now) }
 {
-    let mut elements = List::new(alloc);
+    let mut elements = list_with_room(alloc, gates.len())?;
     'gates: for gate in gates {
         elements.push(Element::Gate {
             op: gate.op,
@@ -132,7 +150,7 @@ pub(crate) fn paths(alloc: Global, primitives: &[Primitive]) -> Result<List<u32>
     requires { length primitives.now ≤ 200000 }
     ensures { IfOk result (λ paths. paths ≡ scopes_after 0 primitives.now) }
 {
-    let mut paths = List::new(alloc);
+    let mut paths = list_with_room(alloc, primitives.len())?;
     let mut named = 0;
     'primitives: for primitive in primitives {
         if primitive.name.is_some() {
@@ -160,7 +178,7 @@ fn top_name(alloc: Global, text: &[u8]) -> Result<NetName, NoMemory>
 pub(crate) fn net_list(alloc: Global, nets: Names) -> Result<List<NetName>, NoMemory>
     ensures { IfOk result (λ names. names ≡ top_name (codes "1'b0") ∷ top_name (codes "1'b1") ∷ map top_name nets) }
 {
-    let mut names = List::new(alloc);
+    let mut names = list_with_room(alloc, nets.len() as usize + 2)?;
     names.push(top_name(alloc, b"1'b0")?)?;
     names.push(top_name(alloc, b"1'b1")?)?;
     'nets: for place in 0..nets.len() {
@@ -173,7 +191,7 @@ pub(crate) fn net_list(alloc: Global, nets: Names) -> Result<List<NetName>, NoMe
 pub(crate) fn scope_list(alloc: Global, top: &[u8], own: Names) -> Result<List<Scope>, NoMemory>
     ensures { IfOk result (λ scopes. scopes ≡ record { parent = None; name = top.now } ∷ map own_scope own) }
 {
-    let mut scopes = List::new(alloc);
+    let mut scopes = list_with_room(alloc, own.len() as usize + 1)?;
     scopes.push(Scope {
         parent: None,
         name: Text::from_bytes(alloc, top)?,

@@ -9,10 +9,9 @@ pub returns : goal.returns
 returns c =
     let text = text_of c.args.source.now c.args.tokens.now in
     let implicit = is_implicit c.args.tokens.now in
-    ap Some (sym (table_of_nets text implicit c.args.header.now c.args.sketch.now c.in_ok-places.places c.in_ok-wires.wires c.new-nets.result c.add_names.new.names c.add_names-2.new.names c.add_names-3.new.names
-    (c.in_ok-places.ensures ∙ ap terminals c.as_slice.ensures)
-    (c.in_ok-wires.ensures ∙ ap (λ ps. filter implicit ps) c.as_slice-2.ensures)
+    ap Some (sym (table_of_nets text implicit c.args.header.now c.args.sketch.now c.in_ok-wires.wires c.new-nets.result c.add_names.new.names c.add_names-2.new.names c.add_names-3.new.names
+    (c.in_ok-wires.ensures ∙ ap (λ ps. filter implicit (terminals ps)) c.as_slice.ensures)
     c.new-nets.ensures
     c.in_ok-add_names.ensures
-    (c.in_ok-add_names-2.ensures ∙ ap (λ ps. with_names c.add_names.new.names (map text ps)) c.as_slice-3.ensures)
-    (c.in_ok-add_names-3.ensures ∙ ap (λ ps. with_names c.add_names-2.new.names (map text ps)) c.as_slice-4.ensures)))
+    (c.in_ok-add_names-2.ensures ∙ ap (λ ps. with_names c.add_names.new.names (map text ps)) c.as_slice-2.ensures)
+    (c.in_ok-add_names-3.ensures ∙ ap (λ ps. with_names c.add_names-2.new.names (map text ps)) c.as_slice-3.ensures)))
