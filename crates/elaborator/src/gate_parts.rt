@@ -68,7 +68,7 @@ fn has_net(nets: &Names, source: &[u8], tokens: &Tokens, place: u32) -> bool
     is_implicit(tokens, place) || is_among(nets, text_at(source, tokens, place))
 }
 
-/// Whether all terminals of primitives are nets at which no undeclared name becomes a wire.
+/// Whether all terminals of primitives are nets, those aside at which an undeclared name becomes a wire.
 pub(crate) fn are_declared(
     nets: &Names,
     source: &[u8],
