@@ -87,6 +87,7 @@ AddsOwn nets old new name (Ok done) = (new ≡ old ++ name ∷ []) × (is_among 
 AddsOwn nets old new name (Err NotYet) = is_among old name ≡ false → is_among nets name ≡ false → ⊥
 AddsOwn nets old new name (Err NoMemory) = Unit {0}
 
+-- the table of names of primitives that are such, or, exactly where they are not, that they are not read yet
 abbrev pub OwnTable : List Name → List Name → Result (List Name) ElabFault → Type 0
 OwnTable nets names (Ok table) = (table ≡ names) × AreOwn nets names
 OwnTable nets names (Err NotYet) = AreOwn nets names → ⊥
