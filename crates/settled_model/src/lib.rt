@@ -15,6 +15,8 @@ mod pass;
 mod settled;
 mod steps;
 mod tables;
+#[cfg(test)]
+mod tests;
 mod turn;
 
 pub use laws::{openings_fit, runs_give_the_history, runs_grow};
