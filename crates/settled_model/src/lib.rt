@@ -15,10 +15,11 @@ mod pass;
 mod settled;
 mod steps;
 mod tables;
-#[cfg(test)]
-mod tests;
 mod turn;
 
 pub use laws::{openings_fit, runs_give_the_history, runs_grow};
 pub use opening::{OpenWord, Opening};
 pub use settled::Settled;
+
+#[cfg(test)]
+mod tests;
