@@ -3,11 +3,11 @@
 
 First designs that `check` reads and then refuses for their last gate, an `and`: fetching, tokens, grammar.
 Then whole commands `check` that end with `accepted`: all seven texts are read and judged. Then `settle` and
-`replay` of events that change the one input each time. Prints for each size a line for each program, with
+`replay` of events that change the one input each time, and `replay` with frames of several slots. Prints for each size a line for each program, with
 seconds and the most memory (the best of several runs, the two programs in turn, since a machine that others
 share is slower at one time than at another), and one with the ratios of the two. Run it after
 `bash examples/inverter/run.sh`, which builds the program; `rustc` must be on the path. Words after the
-script's name choose the kinds of row: read, check, settle, replay.
+script's name choose the kinds of row: read, check, settle, replay, slots.
 """
 import os
 import resource
@@ -53,8 +53,8 @@ def net(k, count):
     return 2 if k == 0 else 3 if k == count else k + 3
 
 
-def texts(count):
-    """The seven texts of a chain with results that are accepted."""
+def texts(count, slots=1):
+    """The seven texts of a chain with results that are accepted. The input is taken in the last slot."""
     netlist = ["module chip0;\n"] + ["wire n%d;\n" % k for k in range(count + 1)]
     netlist += ["not g%d (n%d, n%d);\n" % (k, k + 1, k) for k in range(count)]
     netlist += ["EHOLD r0 (n0);\nendmodule\n"]
@@ -63,9 +63,9 @@ def texts(count):
         design(count, ""),
         '{"version":1,"cells":[]}\n',
         '{"groups":[]}\n',
-        '{"version":1,"chips":[{"room":%d}],"wires":[],"slots":1}\n' % count,
+        '{"version":1,"chips":[{"room":%d}],"wires":[],"slots":%d}\n' % (count, slots),
         "".join(netlist),
-        '{"frames":[{"group":"*","slots":[[["input",0,0,2]]]}],"version":1}\n',
+        '{"frames":[{"group":"*","slots":[%s[["input",0,0,2]]]}],"version":1}\n' % ("[]," * (slots - 1)),
         '{"chips":[{"memories":[],"nets":[%s],"registers":[true]}],"outputs":[[0,%d]],"version":1}\n' % (subjects, count),
     ]
 
@@ -131,6 +131,12 @@ def run_rows(folder, plain, command):
         compare(folder, command, label, texts(count) + ["{}\n", events()], trace(count), plain)
 
 
+def slot_rows(folder, plain):
+    for slots in (1, 10, 100):
+        label = f"replay {SIZES[1]} inverters {EVENTS} events {slots} slots"
+        compare(folder, "replay", label, texts(SIZES[1], slots) + ["{}\n", events()], trace(SIZES[1]), plain)
+
+
 def main(kinds):
     resource.setrlimit(resource.RLIMIT_CORE, (0, 0))
     with tempfile.TemporaryDirectory() as folder:
@@ -141,6 +147,8 @@ def main(kinds):
                 read_rows(folder, plain)
             elif kind == "check":
                 check_rows(folder, plain)
+            elif kind == "slots":
+                slot_rows(folder, plain)
             else:
                 run_rows(folder, plain, kind)
 
@@ -148,4 +156,4 @@ def main(kinds):
 if sys.argv[1:2] == ["--measure"]:
     measure(*sys.argv[2:])
 else:
-    main(sys.argv[1:] or ["read", "check", "settle", "replay"])
+    main(sys.argv[1:] or ["read", "check", "settle", "replay", "slots"])
