@@ -3,88 +3,90 @@ use crate::{BoardFault, each_text_has_one_answer, read_board};
 use id_arena::{ChipId, Key, WireId};
 use std::test::Fail;
 
-/// The fault of a wire.
-fn bad_wire(wire: u32) -> BoardFault {
-    BoardFault::BadWire {
-        wire: WireId::of(wire),
-    }
-}
+/// Texts that are no boards, each with its first fault.
+static FAULTS: [(&str, BoardFault); 20] = [
+    ("{\"version\":1", BoardFault::NotJson),
+    ("nul", BoardFault::NotJson),
+    (
+        "{\"version\":1 : \"chips\":[],\"wires\":[],\"slots\":1}",
+        BoardFault::NotJson,
+    ),
+    (" null", BoardFault::BadShape),
+    ("[]", BoardFault::BadShape),
+    (
+        "{\"chips\":[{\"room\":1}],\"wires\":[],\"slots\":1}",
+        BoardFault::BadShape,
+    ),
+    (
+        "{\"version\":1.0,\"chips\":[{\"room\":1}],\"wires\":[],\"slots\":1}",
+        BoardFault::BadShape,
+    ),
+    (
+        "{\"version\":-1,\"chips\":[{\"room\":1}],\"wires\":[],\"slots\":1}",
+        BoardFault::BadShape,
+    ),
+    (
+        "{\"version\":1,\"chips\":[{\"room\":1099511627777}],\"wires\":[],\"slots\":1}",
+        BoardFault::BadShape,
+    ),
+    (
+        "{\"version\":1,\"chips\":[],\"wires\":[],\"slots\":4294967296}",
+        BoardFault::BadShape,
+    ),
+    (
+        "{\"version\":3,\"chips\":[3],\"wires\":[],\"slots\":1}",
+        BoardFault::BadShape,
+    ),
+    (
+        "{\"version\":0,\"chips\":[{\"room\":9},{\"room\":9}],\"wires\":[],\"slots\":8}",
+        BoardFault::Version,
+    ),
+    (
+        "{\"version\":3,\"chips\":[],\"wires\":[],\"slots\":0}",
+        BoardFault::Version,
+    ),
+    (
+        "{\"version\":1,\"chips\":[{\"room\":1}],\"wires\":[],\"slots\":65536}",
+        BoardFault::Limit,
+    ),
+    (
+        "{\"version\":1,\"chips\":[{\"room\":3}],\"wires\":[],\"slots\":0}",
+        BoardFault::Limit,
+    ),
+    (
+        "{\"slots\":4294967295,\"version\":1,\"wires\":[],\"chips\":[{\"\\u0072o\\u006fm\":23,\"\":1.5}]}",
+        BoardFault::Limit,
+    ),
+    (
+        "{\"version\":1,\"chips\":[],\"wires\":[{\"from\":0,\"to\":0}],\"slots\":1}",
+        BoardFault::Limit,
+    ),
+    (
+        "{\"version\":1,\"chips\":[{\"room\":9},{\"room\":9}],\"wires\":[{\"from\":1,\"to\":1},{\"from\":2,\"to\":0}],\"slots\":8}",
+        BoardFault::BadWire {
+            wire: WireId { place: 0 },
+        },
+    ),
+    (
+        "{\"version\":1,\"chips\":[{\"room\":9},{\"room\":9}],\"wires\":[{\"from\":1,\"to\":0},{\"from\":2,\"to\":0},{\"from\":0,\"to\":2}],\"slots\":8}",
+        BoardFault::BadWire {
+            wire: WireId { place: 1 },
+        },
+    ),
+    (
+        "{\"version\":1,\"chips\":[{\"room\":1}],\"wires\":[{\"from\":0,\"to\":4294967295}],\"slots\":1}",
+        BoardFault::BadWire {
+            wire: WireId { place: 0 },
+        },
+    ),
+];
 
 #[test]
 fn refuses_with_the_first_fault(rt: HostRuntime) -> Result<(), Fail> {
-    for (text, fault) in [
-        ("{\"version\":1", BoardFault::NotJson),
-        ("nul", BoardFault::NotJson),
-        (
-            "{\"version\":1 : \"chips\":[],\"wires\":[],\"slots\":1}",
-            BoardFault::NotJson,
-        ),
-        (" null", BoardFault::BadShape),
-        ("[]", BoardFault::BadShape),
-        (
-            "{\"chips\":[{\"room\":1}],\"wires\":[],\"slots\":1}",
-            BoardFault::BadShape,
-        ),
-        (
-            "{\"version\":1.0,\"chips\":[{\"room\":1}],\"wires\":[],\"slots\":1}",
-            BoardFault::BadShape,
-        ),
-        (
-            "{\"version\":-1,\"chips\":[{\"room\":1}],\"wires\":[],\"slots\":1}",
-            BoardFault::BadShape,
-        ),
-        (
-            "{\"version\":1,\"chips\":[{\"room\":1099511627777}],\"wires\":[],\"slots\":1}",
-            BoardFault::BadShape,
-        ),
-        (
-            "{\"version\":1,\"chips\":[],\"wires\":[],\"slots\":4294967296}",
-            BoardFault::BadShape,
-        ),
-        (
-            "{\"version\":3,\"chips\":[3],\"wires\":[],\"slots\":1}",
-            BoardFault::BadShape,
-        ),
-        (
-            "{\"version\":0,\"chips\":[{\"room\":9},{\"room\":9}],\"wires\":[],\"slots\":8}",
-            BoardFault::Version,
-        ),
-        (
-            "{\"version\":3,\"chips\":[],\"wires\":[],\"slots\":0}",
-            BoardFault::Version,
-        ),
-        (
-            "{\"version\":1,\"chips\":[{\"room\":1}],\"wires\":[],\"slots\":65536}",
-            BoardFault::Limit,
-        ),
-        (
-            "{\"version\":1,\"chips\":[{\"room\":3}],\"wires\":[],\"slots\":0}",
-            BoardFault::Limit,
-        ),
-        (
-            "{\"slots\":4294967295,\"version\":1,\"wires\":[],\"chips\":[{\"\\u0072o\\u006fm\":23,\"\":1.5}]}",
-            BoardFault::Limit,
-        ),
-        (
-            "{\"version\":1,\"chips\":[],\"wires\":[{\"from\":0,\"to\":0}],\"slots\":1}",
-            BoardFault::Limit,
-        ),
-        (
-            "{\"version\":1,\"chips\":[{\"room\":9},{\"room\":9}],\"wires\":[{\"from\":1,\"to\":1},{\"from\":2,\"to\":0}],\"slots\":8}",
-            bad_wire(0),
-        ),
-        (
-            "{\"version\":1,\"chips\":[{\"room\":9},{\"room\":9}],\"wires\":[{\"from\":1,\"to\":0},{\"from\":2,\"to\":0},{\"from\":0,\"to\":2}],\"slots\":8}",
-            bad_wire(1),
-        ),
-        (
-            "{\"version\":1,\"chips\":[{\"room\":1}],\"wires\":[{\"from\":0,\"to\":4294967295}],\"slots\":1}",
-            bad_wire(0),
-        ),
-    ] {
+    for (text, fault) in &FAULTS {
         match read_board(rt.alloc(), text.as_bytes()) {
             Ok(_) => assert!(rt; false, "read {text}"),
-            Err(found) => assert_eq!(rt; found, fault, "at {text}"),
+            Err(found) => assert_eq!(rt; found, *fault, "at {text}"),
         }
     }
     Ok(())

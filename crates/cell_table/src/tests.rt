@@ -158,14 +158,47 @@ fn shown(alloc: Global, table: &CellTable, name: &str) -> Result<String, AllocEr
 fn shown_cell(alloc: Global, cell: &Cell) -> Result<String, AllocError> {
     match &cell.kind {
         CellKind::Comb { inputs, outputs } => {
-            let inputs = joined(alloc, inputs.as_slice())?;
-            let mut text = format!(in alloc; "comb {inputs}")?;
-            for CombOut { pin, table } in outputs.as_slice() {
-                let out = format!(in alloc; " {}:{table}", word(pin))?;
-                text.push_str(&out)?;
-            }
-            Ok(text)
+            shown_comb(alloc, inputs.as_slice(), outputs.as_slice())
         }
+        CellKind::Flop { .. } | CellKind::Latch { .. } => shown_state(alloc, &cell.kind),
+        CellKind::GateClock {
+            clock,
+            enable,
+            test,
+            output,
+        } => {
+            let (clock, enable) = (word(clock), word(enable));
+            format!(in alloc;
+                "gate_clock {clock} {enable} {} {}",
+                optional(test),
+                word(output)
+            )
+        }
+        CellKind::Memory {
+            address_bits,
+            width,
+            writes,
+            reads,
+        } => {
+            let ports = shown_ports(alloc, writes.as_slice(), reads.as_slice())?;
+            format!(in alloc; "memory {address_bits} {width}{ports}")
+        }
+    }
+}
+
+fn shown_comb(alloc: Global, inputs: &[Text], outputs: &[CombOut]) -> Result<String, AllocError> {
+    let inputs = joined(alloc, inputs)?;
+    let mut text = format!(in alloc; "comb {inputs}")?;
+    for CombOut { pin, table } in outputs {
+        let out = format!(in alloc; " {}:{table}", word(pin))?;
+        text.push_str(&out)?;
+    }
+    Ok(text)
+}
+
+/// A flip-flop or a latch in words; nothing for another cell.
+fn shown_state(alloc: Global, kind: &CellKind) -> Result<String, AllocError> {
+    match kind {
         CellKind::Flop {
             clock,
             feed,
@@ -198,28 +231,7 @@ fn shown_cell(alloc: Global, cell: &Cell) -> Result<String, AllocError> {
                 optional(qn)
             )
         }
-        CellKind::GateClock {
-            clock,
-            enable,
-            test,
-            output,
-        } => {
-            let (clock, enable) = (word(clock), word(enable));
-            format!(in alloc;
-                "gate_clock {clock} {enable} {} {}",
-                optional(test),
-                word(output)
-            )
-        }
-        CellKind::Memory {
-            address_bits,
-            width,
-            writes,
-            reads,
-        } => {
-            let ports = shown_ports(alloc, writes.as_slice(), reads.as_slice())?;
-            format!(in alloc; "memory {address_bits} {width}{ports}")
-        }
+        _ => Ok(String::new(alloc)),
     }
 }
 

@@ -52,49 +52,46 @@ fn is_chip(chip: &Chip, nets: u32, gates: &[(Op, u32, u32)], registers: &[u32]) 
     true
 }
 
+/// Plain netlists, each with its number of nets, its gates and what its registers drive.
+static NETLISTS: [(&str, u32, &[(Op, u32, u32)], &[u32]); 4] = [
+    (
+        "module chip0;\nwire n0;\nwire n1;\nnot g0 (n1, n0);\nEHOLD r0 (n0);\nendmodule\n",
+        2,
+        &[(Op::Not, 1, 0)],
+        &[0],
+    ),
+    (
+        "module chip0;\nwire n0;\nwire n1;\nwire n2;\nwire n3;\nnot g0 (n0, n1);\nbuf g1 (n2, n1);\nEHOLD r0 (n1);\nEHOLD r1 (n3);\nendmodule\n",
+        4,
+        &[(Op::Not, 0, 1), (Op::Buf, 2, 1)],
+        &[1, 3],
+    ),
+    ("module chip0;\nendmodule\n", 0, &[], &[]),
+    (
+        "// one\n(* top *) module \\chip0 ; wire n0;wire n1;wire n2;wire n3;wire n4;wire n5;wire n6;wire n7;wire n8;wire n9;wire \\n10 ;buf g0(n10,n10);buf g1(n0,n1);buf g2(n1,n9);not g3(n2,n3);not g4(n3,n4);not g5(n4,n5);not g6(n5,n6);not g7(n6,n7);not g8(n7,n8);not g9(n8,n9);\\EHOLD r0(n9); endmodule /* end */",
+        11,
+        &[
+            (Op::Buf, 10, 10),
+            (Op::Buf, 0, 1),
+            (Op::Buf, 1, 9),
+            (Op::Not, 2, 3),
+            (Op::Not, 3, 4),
+            (Op::Not, 4, 5),
+            (Op::Not, 5, 6),
+            (Op::Not, 6, 7),
+            (Op::Not, 7, 8),
+            (Op::Not, 8, 9),
+        ],
+        &[9],
+    ),
+];
+
 #[test]
 fn reads_plain_netlists(rt: HostRuntime) -> Result<(), Fail> {
     plain_netlists_are_told_apart();
-    for (text, nets, gates, registers) in [
-        (
-            "module chip0;\nwire n0;\nwire n1;\nnot g0 (n1, n0);\nEHOLD r0 (n0);\nendmodule\n",
-            2,
-            [(Op::Not, 1, 0)].as_slice(),
-            [0].as_slice(),
-        ),
-        (
-            "module chip0;\nwire n0;\nwire n1;\nwire n2;\nwire n3;\nnot g0 (n0, n1);\nbuf g1 (n2, n1);\nEHOLD r0 (n1);\nEHOLD r1 (n3);\nendmodule\n",
-            4,
-            [(Op::Not, 0, 1), (Op::Buf, 2, 1)].as_slice(),
-            [1, 3].as_slice(),
-        ),
-        (
-            "module chip0;\nendmodule\n",
-            0,
-            [].as_slice(),
-            [].as_slice(),
-        ),
-        (
-            "// one\n(* top *) module \\chip0 ; wire n0;wire n1;wire n2;wire n3;wire n4;wire n5;wire n6;wire n7;wire n8;wire n9;wire \\n10 ;buf g0(n10,n10);buf g1(n0,n1);buf g2(n1,n9);not g3(n2,n3);not g4(n3,n4);not g5(n4,n5);not g6(n5,n6);not g7(n6,n7);not g8(n7,n8);not g9(n8,n9);\\EHOLD r0(n9); endmodule /* end */",
-            11,
-            [
-                (Op::Buf, 10, 10),
-                (Op::Buf, 0, 1),
-                (Op::Buf, 1, 9),
-                (Op::Not, 2, 3),
-                (Op::Not, 3, 4),
-                (Op::Not, 4, 5),
-                (Op::Not, 5, 6),
-                (Op::Not, 6, 7),
-                (Op::Not, 7, 8),
-                (Op::Not, 8, 9),
-            ]
-            .as_slice(),
-            [9].as_slice(),
-        ),
-    ] {
+    for (text, nets, gates, registers) in &NETLISTS {
         match netlist(rt.alloc(), text.as_bytes())? {
-            Ok(chip) => assert!(rt; is_chip(&chip, nets, gates, registers), "at {text}"),
+            Ok(chip) => assert!(rt; is_chip(&chip, *nets, gates, registers), "at {text}"),
             Err(_) => assert!(rt; false, "refused {text}"),
         }
     }
