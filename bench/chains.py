@@ -5,9 +5,9 @@ First designs that `check` reads and then refuses for their last gate, an `and`:
 Then whole commands `check` that end with `accepted`: all seven texts are read and judged. Then `settle` and
 `replay` of events that change the one input each time, and `replay` with frames of several slots. Prints for each size a line for each program, with
 seconds and the most memory (the best of several runs, the two programs in turn, since a machine that others
-share is slower at one time than at another), and one with the ratios of the two. Run it after
-`bash examples/inverter/run.sh`, which builds the program; `rustc` must be on the path. Words after the
-script's name choose the kinds of row: read, check, settle, replay, slots.
+share is slower at one time than at another), and one with the ratios of the two. Run it after `rt run` in
+`crates/emu`, which proves and builds the program; `rustc` must be on the path. Words after the script's name
+choose the kinds of row: read, check, settle, replay, slots.
 """
 import os
 import resource

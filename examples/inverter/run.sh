@@ -1,7 +1,6 @@
 #!/usr/bin/env bash
-# Proves and builds the program, and judges this example: prints `accepted` and `frame * 1`.
+# Judges this example: prints `accepted` and `frame * 1`, and tells on standard error what was run.
 set -euo pipefail
 here=$(cd "$(dirname "$0")" && pwd)
-cd "$here/../../crates/emu"
-rt run -- check t "$here/design.v" "$here/cells.json" "$here/groups.json" "$here/board.json" \
-    "$here/netlist.v" "$here/schedule.json" "$here/map.json" 2>/dev/null
+exec bash "$here/../program.sh" check t "$here/design.v" "$here/cells.json" "$here/groups.json" \
+    "$here/board.json" "$here/netlist.v" "$here/schedule.json" "$here/map.json"
