@@ -1,6 +1,6 @@
 #!/usr/bin/env bash
 # Prints docs/ARCHITECTURE.md with the column 'stands on' of its table of crates as crates.txt has it.
-# To write it: bash checks/stands_on.sh >/tmp/map && cp /tmp/map docs/ARCHITECTURE.md
+# To write it: bash checks/stands_on.sh >map && mv map docs/ARCHITECTURE.md
 set -euo pipefail
 cd "$(dirname "$0")/.."
 awk '
