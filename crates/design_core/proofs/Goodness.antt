@@ -12,10 +12,10 @@ use Rattle.design_core.specs.declared.element.Memory.{Memory}
 use Rattle.design_core.specs.declared.parts.Parts.{Parts}
 use Rattle.design_core.specs.declared.parts.NetName.{NetName}
 use Rattle.design_core.specs.declared.parts.Scope.{Scope}
-use Rattle.design_core.specs.Design.{IsDesign, driver_count, element_fits, element_reads, includes, is_memory, memory_fits, net_count, nets_read, op_fits, write_reads}
+use Rattle.design_core.specs.Design.{IsDesign, driver_count, element_fits, element_reads, includes, inputs_fit, is_memory, memory_fits, net_count, nets_read, op_fits, read_reads, write_reads}
 use Rattle.design_core.specs.Limits.{IsCountable, IsWithin, inputs_within, most_inputs}
 use Rattle.design_core.specs.Names.{IsNamed}
-use Rattle.design_core.specs.Faults.{AreGood, AreSingle, AreThere, IsDriven, IsOnce, are_there, around_good, element_good, element_outputs, inputs_fit, memory_good, parent_earlier, ports_there, rest_good, scope_there, shape_good}
+use Rattle.design_core.specs.Faults.{AreGood, AreSingle, AreThere, IsDriven, IsOnce, are_there, around_good, element_good, element_outputs, memory_good, parent_earlier, ports_there, rest_good, scope_there, shape_good}
 use Rattle.design_core.proofs.Counting.{count-cons}
 use Rattle.design_core.specs.Tables.{IsSound}
 use Rattle.design_core.proofs.Bounds.{every}
@@ -153,7 +153,7 @@ module _ (p : Parts) (good : AreGood p) where
   pub memories_fit : list_all memory_fits p.memories ≡ true
   memories_fit = all_from memory_fits p.memories (λ m memory here.
       (and_parts (memory_fits memory) (list_all (λ port. are_there (net_count p) (write_reads port)) memory.writes)
-      (and_parts (memory_fits memory && list_all (λ port. are_there (net_count p) (write_reads port)) memory.writes) (list_all (λ port. are_there (net_count p) port.address && are_there (net_count p) port.bits) memory.reads) (memory_here m memory here)).0).0)
+      (and_parts (memory_fits memory && list_all (λ port. are_there (net_count p) (write_reads port)) memory.writes) (list_all (λ port. are_there (net_count p) (read_reads port) && are_there (net_count p) port.bits) memory.reads) (memory_here m memory here)).0).0)
 
 -- a gate's inputs fit where they are as its operation asks for them, and not too many
 inputs_fine : (op : Op) (n : ℕ) → inputs_fit op n ≡ true → nat_le n (most_inputs op) ≡ true → op_fits op n ≡ true

@@ -7,8 +7,8 @@ use Rattle.std.proofs.lemmas.Bool.{ne_eqb}
 use Rattle.design_core.specs.declared.parts.Scope.{Scope}
 use Rattle.design_core.specs.declared.parts.Parts.{Parts}
 use Rattle.design_core.specs.declared.parts.NetName.{NetName}
-use Rattle.design_core.specs.Names.{IsTrail, IsPathIn, IsNetText, named_in, escaped, path_of}
-use Rattle.design_core.specs.Trails.{AreOutward, AreScopes, name_at, parent_at, separator, written_path}
+use Rattle.design_core.specs.Names.{AreOutward, IsTrail, IsPathIn, IsNetText, named_in, escaped, path_of}
+use Rattle.design_core.specs.Trails.{AreScopes, name_at, parent_at, separator, written_path}
 
 -- an item within a list is there
 pub found_at : {X : Type 0} (xs : List X) (k : ℕ) → k < length xs → (x : X) × (slice_get xs k ≡ Some x)

@@ -12,7 +12,7 @@ use Rattle.design_core.specs.declared.element.WritePort.{WritePort}
 use Rattle.design_core.specs.declared.element.Driver.TheVariants.{Input, Read}
 use Rattle.design_core.specs.declared.parts.Parts.{Parts}
 use Rattle.design_core.specs.declared.parts.Port.{Port}
-use Rattle.design_core.specs.Design.{driver_count, element_driver, element_reads, includes, is_net, memory_fits, memory_reads, net_count, nets_read, port_bits, write_reads}
+use Rattle.design_core.specs.Design.{driver_count, element_driver, element_reads, includes, is_net, memory_fits, memory_reads, net_count, nets_read, port_bits, read_reads, write_reads}
 use Rattle.design_core.specs.Drives.{Drive, constant_drives, drive_of, drives_of, element_drives, elements_drives, input_drives, memories_drives, memory_drives, port_drives}
 use Rattle.design_core.specs.Faults.{AreThere, are_there, element_outputs, is_there, memory_good, ports_there}
 use Rattle.design_core.proofs.Counting.{count_of, counted}
@@ -54,10 +54,10 @@ elements_there nets es there =
 
 memory_there : (nets m : ℕ) (memory : Memory) → memory_good nets (Some memory) ≡ true → list_all (drives_there nets) (memory_drives m memory) ≡ true
 memory_there nets m memory good =
-    all_flat_from (drives_there nets) (λ (x : ℕ × ReadPort). port_drives m x.0 x.1.bits) (λ (port : ReadPort). are_there nets port.address && are_there nets port.bits) 0 memory.reads
+    all_flat_from (drives_there nets) (λ (x : ℕ × ReadPort). port_drives m x.0 x.1.bits) (λ (port : ReadPort). are_there nets (read_reads port) && are_there nets port.bits) 0 memory.reads
     (λ r port fine.
-    all_map_from (drives_there nets) (λ (x : ℕ × NetId). drive_of (Read (record { place = m }) r x.0) x.1) (is_there nets) 0 port.bits (λ b n. refl) (and_parts (are_there nets port.address) (are_there nets port.bits) fine).1)
-    (and_parts (memory_fits memory && list_all (λ port. are_there nets (write_reads port)) memory.writes) (list_all (λ port. are_there nets port.address && are_there nets port.bits) memory.reads) good).1
+    all_map_from (drives_there nets) (λ (x : ℕ × NetId). drive_of (Read (record { place = m }) r x.0) x.1) (is_there nets) 0 port.bits (λ b n. refl) (and_parts (are_there nets (read_reads port)) (are_there nets port.bits) fine).1)
+    (and_parts (memory_fits memory && list_all (λ port. are_there nets (write_reads port)) memory.writes) (list_all (λ port. are_there nets (read_reads port) && are_there nets port.bits) memory.reads) good).1
 
 memories_there : (nets : ℕ) (memories : List Memory) → list_all (λ memory. memory_good nets (Some memory)) memories ≡ true → list_all (drives_there nets) (memories_drives memories) ≡ true
 memories_there nets memories good =
@@ -93,11 +93,11 @@ in_range p there n some = count_there (net_count p) n (drives_of p) (all_there p
 
 memory_read : (nets : ℕ) (memory : Memory) → memory_good nets (Some memory) ≡ true → are_there nets (memory_reads memory) ≡ true
 memory_read nets memory good =
-    let outer = and_parts (memory_fits memory && list_all (λ port. are_there nets (write_reads port)) memory.writes) (list_all (λ port. are_there nets port.address && are_there nets port.bits) memory.reads) good in
+    let outer = and_parts (memory_fits memory && list_all (λ port. are_there nets (write_reads port)) memory.writes) (list_all (λ port. are_there nets (read_reads port) && are_there nets port.bits) memory.reads) good in
     let inner = and_parts (memory_fits memory) (list_all (λ port. are_there nets (write_reads port)) memory.writes) outer.0 in
-    all_append (is_there nets) (flat_map write_reads memory.writes) (flat_map (λ (port : ReadPort). port.address) memory.reads)
+    all_append (is_there nets) (flat_map write_reads memory.writes) (flat_map read_reads memory.reads)
     (all_flat (is_there nets) write_reads (λ (port : WritePort). are_there nets (write_reads port)) memory.writes (λ port fine. fine) inner.1)
-    (all_flat (is_there nets) (λ (port : ReadPort). port.address) (λ (port : ReadPort). are_there nets port.address && are_there nets port.bits) memory.reads (λ port fine. (and_parts (are_there nets port.address) (are_there nets port.bits) fine).0) outer.1)
+    (all_flat (is_there nets) read_reads (λ (port : ReadPort). are_there nets (read_reads port) && are_there nets port.bits) memory.reads (λ port fine. (and_parts (are_there nets (read_reads port)) (are_there nets port.bits) fine).0) outer.1)
 
 all_read : (p : Parts) → AreThere p → are_there (net_count p) (nets_read p) ≡ true
 all_read p there =

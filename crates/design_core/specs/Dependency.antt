@@ -4,6 +4,7 @@ use Rattle.std.specs.Prelude.{◌≡◌, ◌<◌, ◌+◌, ℕ, zero, suc, max, 
 use Rattle.std.specs.List.{enumerate_from}
 use Rattle.id_arena.specs.declared.keys.NetId.{NetId}
 use Rattle.id_arena.specs.declared.keys.MemId.{MemId}
+use Rattle.design_core.specs.declared.element.Edge.{Edge}
 use Rattle.design_core.specs.declared.element.Element.{Element}
 use Rattle.design_core.specs.declared.element.Element.TheVariants as element
 use Rattle.design_core.specs.declared.element.Memory.{Memory}
@@ -31,10 +32,15 @@ needs_at (Some e) = needs e
 abbrev pub write_nodes : MemId → Memory → List NodeId
 write_nodes m memory = map (λ (k, port). Write m k) (enumerate_from 0 memory.writes)
 
--- a read bit depends on its port's address and on all write nodes of its memory
+-- A bit of a read port with a clock depends on the clock alone. One of a port without depends on the
+-- port's address and on all write nodes of its memory.
+abbrev pub port_needs : MemId → Memory → List NetId → Option Edge → List NodeId
+port_needs m memory address None = map Net address ++ write_nodes m memory
+port_needs m memory address (Some edge) = Net edge.net ∷ []
+
 abbrev pub read_needs : MemId → Memory → Option ReadPort → List NodeId
 read_needs m memory None = []
-read_needs m memory (Some port) = map Net port.address ++ write_nodes m memory
+read_needs m memory (Some port) = port_needs m memory port.address port.clock
 
 abbrev pub read_needs_at : MemId → Option Memory → ℕ → List NodeId
 read_needs_at m None r = []
@@ -52,7 +58,7 @@ abbrev pub write_before : MemId → ℕ → List NodeId
 write_before m zero = []
 write_before m (suc k) = Write m k ∷ []
 
--- a write node depends on its clock and on the write node of the port before it
+-- a write node waits for the clock of its port, and for the write node before it
 abbrev pub write_needs : MemId → ℕ → Option WritePort → List NodeId
 write_needs m k None = []
 write_needs m k (Some port) = Net port.clock ∷ write_before m k

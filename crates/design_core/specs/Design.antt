@@ -6,6 +6,7 @@ use Rattle.std.specs.Option.{option_or}
 use Rattle.id_arena.specs.declared.keys.NetId.{NetId}
 use Rattle.design_core.specs.declared.operation.Op.{Op}
 use Rattle.design_core.specs.declared.operation.Op.TheVariants.{Buf, Not, Table}
+use Rattle.design_core.specs.declared.element.Edge.{Edge}
 use Rattle.design_core.specs.declared.element.Level.{Level}
 use Rattle.design_core.specs.declared.element.Element.{Element}
 use Rattle.design_core.specs.declared.element.Element.TheVariants as element
@@ -16,6 +17,7 @@ use Rattle.design_core.specs.declared.element.Driver.{Driver}
 use Rattle.design_core.specs.declared.element.Driver.TheVariants.{Constant, Input, Elem, Read}
 use Rattle.design_core.specs.declared.parts.Parts.{Parts}
 use Rattle.design_core.specs.declared.parts.Port.{Port}
+use Rattle.design_core.specs.Most.{most_table_inputs, most_address_bits, most_width, most_ports}
 
 abbrev pub net_count : Parts → ℕ
 net_count p = length p.net_names
@@ -92,9 +94,17 @@ reset_nets clear preset = map (λ l. l.net) (option_to_list clear ++ option_to_l
 abbrev pub write_reads : WritePort → List NetId
 write_reads port = port.clock ∷ port.enable.net ∷ (port.address ++ port.feed)
 
+-- the net of a read port's clock, where it has one
+abbrev pub clock_nets : Option Edge → List NetId
+clock_nets clock = map (λ edge. edge.net) (option_to_list clock)
+
+-- the nets that a read port reads: its clock, then its address
+abbrev pub read_reads : ReadPort → List NetId
+read_reads port = clock_nets port.clock ++ port.address
+
 -- the nets that a memory reads through its pins
 abbrev pub memory_reads : Memory → List NetId
-memory_reads memory = flat_map write_reads memory.writes ++ flat_map (λ port. port.address) memory.reads
+memory_reads memory = flat_map write_reads memory.writes ++ flat_map read_reads memory.reads
 
 -- the nets that an element other than a memory reads through its pins
 abbrev pub element_reads : Element → List NetId
@@ -108,23 +118,30 @@ abbrev pub nets_read : Parts → List NetId
 nets_read p =
     flat_map element_reads p.elements ++ flat_map memory_reads p.memories ++ port_bits p.outputs
 
--- a gate word takes one input or more, and `buf` and `not` just one; a table has a bit for each row
+-- Whether a gate has inputs as its word or its table asks for them: `buf` and `not` have one, other words
+-- have some, and a table has no bit at or above 2 to the number of inputs. Too many are no matter here.
+abbrev pub inputs_fit : Op → ℕ → Bool
+inputs_fit Buf inputs = inputs == 1
+inputs_fit Not inputs = inputs == 1
+inputs_fit (Table table) inputs = nat_lt table (2 ^ (2 ^ inputs))
+inputs_fit other inputs = nat_lt 0 inputs
+
+-- the inputs fit, and those of a table are not too many, so that each row has a number
 abbrev pub op_fits : Op → ℕ → Bool
-op_fits Buf inputs = inputs == 1
-op_fits Not inputs = inputs == 1
-op_fits (Table table) inputs = nat_le inputs 6 && nat_lt table (2 ^ (2 ^ inputs))
-op_fits other inputs = nat_lt 0 inputs
+op_fits (Table table) inputs = nat_le inputs most_table_inputs && inputs_fit (Table table) inputs
+op_fits other inputs = inputs_fit other inputs
 
 abbrev pub element_fits : Parts → Element → Bool
 element_fits p (element.Gate op inputs output) = op_fits op (length inputs)
 element_fits p (element.Memory m) = nat_lt m.place (length p.memories)
 element_fits p other = true
 
--- the lists of a memory's ports have the lengths that its dimensions say, which are within the limits
+-- the lists of a memory's ports have the lengths that its dimensions say, and the dimensions and the number of
+-- ports are within the limits
 abbrev pub memory_fits : Memory → Bool
 memory_fits memory =
-    nat_le memory.address_bits 16 && nat_lt 0 memory.width && nat_le memory.width 128
-    && nat_le (length memory.writes + length memory.reads) 16
+    nat_le memory.address_bits most_address_bits && nat_lt 0 memory.width && nat_le memory.width most_width
+    && nat_le (length memory.writes + length memory.reads) most_ports
     && list_all (λ port. (length port.address == memory.address_bits) && (length port.feed == memory.width)) memory.writes
     && list_all (λ port. (length port.address == memory.address_bits) && (length port.bits == memory.width)) memory.reads
 

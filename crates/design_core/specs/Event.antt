@@ -2,17 +2,20 @@
 -- The rules are told in docs/RULES.md, "After an event" and "History".
 use Rattle.std.specs.Prelude.{◌≡◌, ◌<◌, ℕ, ◌==◌, ◌&&◌, Bool, if◌then◌else◌, Option, Some, None, List, [], ◌∷◌, slice_get, unwrap_or}
 use Rattle.std.specs.Option.{option_or}
+use Rattle.id_arena.specs.declared.keys.NetId.{NetId}
+use Rattle.design_core.specs.declared.element.Edge.{Edge}
 use Rattle.design_core.specs.declared.element.Element.{Element}
 use Rattle.design_core.specs.declared.element.Element.TheVariants as element
 use Rattle.design_core.specs.declared.element.Memory.{Memory}
+use Rattle.design_core.specs.declared.element.ReadPort.{ReadPort}
 use Rattle.design_core.specs.declared.element.WritePort.{WritePort}
 use Rattle.design_core.specs.declared.element.Driver.TheVariants.{Input}
 use Rattle.design_core.specs.declared.parts.Parts.{Parts}
 use Rattle.design_core.specs.declared.values.PortBit.{PortBit}
 use Rattle.design_core.specs.Operation.{op_value}
 use Rattle.design_core.specs.Design.{net_count, driver}
-use Rattle.design_core.specs.Valuation.{Valuation, values, shown_number, forced, passed, has_edge, acts, IsAddress, SameValues}
-use Rattle.design_core.specs.Settled.{ConstantsHold, ReadsHold, Opening, IsOpened}
+use Rattle.design_core.specs.Valuation.{Valuation, values, shown_number, addressed_bit, forced, passed, has_edge, acts, IsAddress, SameValues}
+use Rattle.design_core.specs.Settled.{ConstantsHold, IsReadBit, ReadsHold, Opening, IsOpened}
 
 -- the value that an event gives to a net, if it gives one; where it gives several, the last counts
 abbrev pub given : List PortBit → ℕ → Option Bool
@@ -43,6 +46,15 @@ written v w (port ∷ ports) a old =
     written v w ports a
     (if stores v w port && (shown_number v port.address == a) then shown_number v port.feed else old)
 
+-- A read port whose clock has its edge shows the word as it was before the writes of the event, at the
+-- address that stood before the event. Without its edge it shows what it showed.
+abbrev pub ClockedReadsFollow : Parts → Valuation → Valuation → Type 0
+ClockedReadsFollow p v w =
+    (m r b : ℕ) (port : ReadPort) (edge : Edge) (n : NetId)
+    → IsReadBit p m r b port n
+    → port.clock ≡ Some edge
+    → w.net n.place ≡ (if has_edge v w edge.net edge.rise then addressed_bit v m port b else v.net n.place)
+
 -- the valuation `w` after an event that gives values to inputs, from the valuation `v` before it
 pub record IsAfter (p : Parts) (v : Valuation) (event : List PortBit) (w : Valuation) : Type 0 where
   pub constants : ConstantsHold p w
@@ -51,6 +63,7 @@ pub record IsAfter (p : Parts) (v : Valuation) (event : List PortBit) (w : Valua
   pub words : (m a : ℕ) (memory : Memory) → slice_get p.memories m ≡ Some memory → IsAddress p m a
       → w.word m a ≡ written v w memory.writes a (v.word m a)
   pub reads : ReadsHold p w
+  pub clocked : ClockedReadsFollow p v w
 
 -- each valuation is the one after the next event
 abbrev pub Follow : Parts → Valuation → List (List PortBit) → List Valuation → Type 0

@@ -1,11 +1,9 @@
 -- What keeps parts from being a design, and which of several faults is told.
 -- The rule is told in docs/RULES.md, "Building a design".
-use Rattle.std.specs.Prelude.{◌≡◌, ◌<◌, ◌≤◌, ◌^◌, ◌&&◌, ◌==◌, ℕ, nat_le, nat_lt, Bool, true, false, Option, Some, None, List, [], ◌∷◌, take, length, get_or, is_none, count_by, slice_get, slice_set, Result, Ok, Err, IsTrue}
+use Rattle.std.specs.Prelude.{◌≡◌, ◌<◌, ◌≤◌, ◌&&◌, ◌==◌, ℕ, nat_le, nat_lt, Bool, true, false, Option, Some, None, List, [], ◌∷◌, take, length, get_or, is_none, count_by, slice_get, slice_set, Result, Ok, Err, IsTrue}
 use Rattle.std.specs.List.{list_all, enumerate_from}
 use Rattle.id_arena.specs.declared.keys.ElemId.{ElemId}
 use Rattle.id_arena.specs.declared.keys.NetId.{NetId}
-use Rattle.design_core.specs.declared.operation.Op.{Op}
-use Rattle.design_core.specs.declared.operation.Op.TheVariants.{Buf, Not, Table}
 use Rattle.design_core.specs.declared.element.Element.{Element}
 use Rattle.design_core.specs.declared.element.Element.TheVariants as element
 use Rattle.design_core.specs.declared.element.Memory.{Memory}
@@ -15,7 +13,8 @@ use Rattle.design_core.specs.declared.fault.LimitKind.{LimitKind}
 use Rattle.design_core.specs.declared.fault.LimitKind.TheVariants.{Inputs, Nets, Elements, Words}
 use Rattle.design_core.specs.declared.fault.DesignFault.{DesignFault}
 use Rattle.design_core.specs.declared.fault.DesignFault.TheVariants as fault
-use Rattle.design_core.specs.Design.{net_count, driver_count, nets_read, includes, element_reads, write_reads, memory_fits, is_memory}
+use Rattle.design_core.specs.Design.{net_count, driver_count, nets_read, includes, element_reads, write_reads, read_reads, inputs_fit, memory_fits, is_memory}
+use Rattle.design_core.specs.Most.{most_nets, most_elements, most_words}
 use Rattle.design_core.specs.Limits.{inputs_within, word_count, IsWithin}
 use Rattle.design_core.specs.Names.{IsNetText}
 use Rattle.design_core.specs.Tables.{IsMemoryAt, IsSound}
@@ -37,21 +36,13 @@ element_outputs (element.Flop f) = f.q ∷ []
 element_outputs (element.Latch l) = l.q ∷ []
 element_outputs (element.Memory m) = []
 
--- Whether a gate has inputs as its word or its table asks for them: `buf` and `not` have one, other words
--- have some, and a table has no bit at or above 2 to the number of inputs. Too many are no matter here.
-abbrev pub inputs_fit : Op → ℕ → Bool
-inputs_fit Buf inputs = inputs == 1
-inputs_fit Not inputs = inputs == 1
-inputs_fit (Table table) inputs = nat_lt table (2 ^ (2 ^ inputs))
-inputs_fit other inputs = nat_lt 0 inputs
-
 -- whether a memory is there, has its shape and names nets that are there
 abbrev pub memory_good : ℕ → Option Memory → Bool
 memory_good nets None = false
 memory_good nets (Some memory) =
     memory_fits memory
     && list_all (λ port. are_there nets (write_reads port)) memory.writes
-    && list_all (λ port. are_there nets port.address && are_there nets port.bits) memory.reads
+    && list_all (λ port. are_there nets (read_reads port) && are_there nets port.bits) memory.reads
 
 -- whether an element after these ones has its shape, and a memory that no earlier element has
 abbrev pub shape_good : Parts → List Element → Element → Bool
@@ -152,9 +143,9 @@ TellsBad p other = ⊥
 -- whether the parts are within a limit; those on width, depth and instances are asked before
 abbrev pub within : Parts → LimitKind → Bool
 within p Inputs = list_all inputs_within p.elements
-within p Nets = nat_le (net_count p) 400000
-within p Elements = nat_le (length p.elements) 200000
-within p Words = nat_le (word_count p) 4194304
+within p Nets = nat_le (net_count p) most_nets
+within p Elements = nat_le (length p.elements) most_elements
+within p Words = nat_le (word_count p) most_words
 within p other = true
 
 -- the turn in which a limit is asked

@@ -1,3 +1,4 @@
+pub mod Most
 pub mod Operation
 pub mod Design
 pub mod Valuation

@@ -6,13 +6,16 @@ use Rattle.design_core.specs.declared.parts.Parts.{Parts}
 use Rattle.design_core.specs.declared.parts.NetName.{NetName}
 use Rattle.design_core.specs.declared.parts.Scope.{Scope}
 
--- Each element has a path, the scope of each net and path is there, and the scope around a scope is an
--- earlier one.
+-- the scope around a scope is an earlier one
+abbrev pub AreOutward : List Scope → Type 0
+AreOutward scopes = (s : ℕ) (scope : Scope) → slice_get scopes s ≡ Some scope → IfSome scope.parent (λ parent. parent < s)
+
+-- Each element has a path, the scope of each net and path is there, and scopes stand in earlier ones.
 pub record IsNamed (p : Parts) : Type 0 where
   pub one_path : length p.paths ≡ length p.elements
   pub path_scopes : (k s : ℕ) → slice_get p.paths k ≡ Some s → s < length p.scopes
   pub net_scopes : (n : ℕ) (name : NetName) → slice_get p.net_names n ≡ Some name → name.scope < length p.scopes
-  pub parents : (s : ℕ) (scope : Scope) → slice_get p.scopes s ≡ Some scope → IfSome scope.parent (λ parent. parent < s)
+  pub parents : AreOutward p.scopes
 
 -- the names of a scope and of the scopes around it, from the scope outwards; the top has no name here
 pub data IsTrail (scopes : List Scope) : ℕ → List (List ℕ) → Type 0 where

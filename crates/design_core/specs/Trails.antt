@@ -1,6 +1,6 @@
 -- The path of a scope as it is written, from the outermost name inwards.
 -- The rule is told in docs/FORMATS.md, "Names and paths".
-use Rattle.std.specs.Prelude.{◌≡◌, ◌<◌, ℕ, Option, Some, None, List, [], ◌∷◌, ◌++◌, length, slice_get, IfSome}
+use Rattle.std.specs.Prelude.{◌≡◌, ◌<◌, ℕ, Option, Some, None, List, [], ◌∷◌, ◌++◌, length, slice_get}
 use Rattle.design_core.specs.declared.parts.Scope.{Scope}
 use Rattle.design_core.specs.Names.{escaped}
 
@@ -19,10 +19,6 @@ the_parent (Some scope) = scope.parent
 
 abbrev pub parent_at : List Scope → ℕ → Option ℕ
 parent_at scopes s = the_parent (slice_get scopes s)
-
--- the scope around a scope is an earlier one
-abbrev pub AreOutward : List Scope → Type 0
-AreOutward scopes = (s : ℕ) (scope : Scope) → slice_get scopes s ≡ Some scope → IfSome scope.parent (λ parent. parent < s)
 
 -- these scopes are there
 abbrev pub AreScopes : List Scope → List ℕ → Type 0

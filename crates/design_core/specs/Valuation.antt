@@ -6,8 +6,9 @@ use Rattle.id_arena.specs.declared.keys.NetId.{NetId}
 use Rattle.design_core.specs.declared.element.Level.{Level}
 use Rattle.design_core.specs.declared.element.Latch.{Latch}
 use Rattle.design_core.specs.declared.element.Memory.{Memory}
+use Rattle.design_core.specs.declared.element.ReadPort.{ReadPort}
 use Rattle.design_core.specs.declared.parts.Parts.{Parts}
-use Rattle.design_core.specs.Operation.{number}
+use Rattle.design_core.specs.Operation.{number, bit_of}
 use Rattle.design_core.specs.Design.{net_count}
 
 -- each net is 0 or 1, and each word of a memory is a number; words go by memory and address
@@ -22,6 +23,10 @@ values v nets = map (λ n. v.net n.place) nets
 -- the number that some nets show, from bit 0
 abbrev pub shown_number : Valuation → List NetId → ℕ
 shown_number v nets = number (values v nets)
+
+-- a bit of the word at a read port's address
+abbrev pub addressed_bit : Valuation → ℕ → ReadPort → ℕ → Bool
+addressed_bit v m port b = bit_of (v.word m (shown_number v port.address)) b
 
 -- a clock has its edge between two valuations
 abbrev pub has_edge : Valuation → Valuation → NetId → Bool → Bool
@@ -50,6 +55,11 @@ passed l v =
 -- an address of a memory of the design
 abbrev pub IsAddress : Parts → ℕ → ℕ → Type 0
 IsAddress p m a = (memory : Memory) × (slice_get p.memories m ≡ Some memory) × (a < 2 ^ memory.address_bits)
+
+-- words, by memory and address, are below 2 to the width of their memory
+abbrev pub WordsFit : Parts → (ℕ → ℕ → ℕ) → Type 0
+WordsFit p words =
+    (m a : ℕ) (memory : Memory) → slice_get p.memories m ≡ Some memory → a < 2 ^ memory.address_bits → words m a < 2 ^ memory.width
 
 -- two valuations of a design are the same on its nets and on its words
 pub record SameValues (p : Parts) (v w : Valuation) : Type 0 where

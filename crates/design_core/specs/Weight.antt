@@ -7,8 +7,11 @@ use Rattle.design_core.specs.declared.element.Memory.{Memory}
 use Rattle.design_core.specs.declared.parts.Parts.{Parts}
 
 -- a memory weighs its number of words times its width
+abbrev pub words_weight : ℕ → ℕ → ℕ
+words_weight address_bits width = 2 ^ address_bits * width
+
 abbrev pub memory_weight : Memory → ℕ
-memory_weight memory = 2 ^ memory.address_bits * memory.width
+memory_weight memory = words_weight memory.address_bits memory.width
 
 -- a gate weighs its number of inputs, a flip-flop or a latch 8
 abbrev pub weight : Parts → Element → ℕ

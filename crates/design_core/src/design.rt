@@ -39,6 +39,7 @@ impl Model for Design {
 impl Design {
     ghost use Rattle.design_core.specs.Design.{IsDesign, driver, element_fits, memory_fits, net_count};
     ghost use Rattle.design_core.specs.Limits.{IsCountable, IsWithin};
+    ghost use Rattle.design_core.specs.Most.{most_elements, most_nets};
     ghost use Rattle.design_core.specs.Names.{IsElementPath, IsNamed, IsNetText};
     ghost use Rattle.design_core.specs.Tables.{AreDrivers, AreOwners, IsMemoryAt, IsSound};
     ghost use Rattle.design_core.specs.Weight.{memory_weight, weight};
@@ -71,7 +72,7 @@ impl Design {
     pub fn nets(&self) -> u32
         ensures count { result ≡ net_count self.now }
         ensures some { 2 ≤ result }
-        ensures few { result ≤ 400000 }
+        ensures few { result ≤ most_nets }
     {
         self.parts.net_names.len() as u32
     }
@@ -79,7 +80,7 @@ impl Design {
     /// The number of elements, at most 200,000.
     pub fn elems(&self) -> u32
         ensures count { result ≡ length self.now.elements }
-        ensures few { result ≤ 200000 }
+        ensures few { result ≤ most_elements }
     {
         self.parts.elements.len() as u32
     }

@@ -5,6 +5,7 @@ ghost use Rattle.std.specs.List.{list_all};
 ghost use Rattle.design_core.specs.declared.drives.Driven.TheVariants.{Never};
 ghost use Rattle.design_core.specs.declared.element.Driver.TheVariants.{Input};
 ghost use Rattle.design_core.specs.Design.{net_count};
+ghost use Rattle.design_core.specs.Most.{most_places, most_width};
 ghost use Rattle.design_core.specs.Limits.{IsCountable};
 ghost use Rattle.design_core.specs.Drives.{AreTold, TellsFault, drive_of, drives_of, element_drives, elements_drives, input_drives, memories_drives, memory_drives, once_more, port_drives, put, put_all, the_driver};
 ghost use Rattle.design_core.specs.Reads.{is_never};
@@ -130,7 +131,7 @@ fn drive_element(table: &mut [Driven], id: ElemId, element: &Element)
 
 /// Counts what all elements drive.
 fn drive_elements(table: &mut [Driven], elements: &[Element])
-    requires few { length elements.now ≤ 4294967294 }
+    requires few { length elements.now ≤ most_places }
     requires there { IsTrue (list_all (λ e. are_there (length table.old) (element_outputs e)) elements.now) }
     ensures { table.new ≡ put_all (elements_drives 0 elements.now) table.old }
 {
@@ -141,7 +142,7 @@ fn drive_elements(table: &mut [Driven], elements: &[Element])
 
 /// Counts the bits of a memory's read port.
 fn drive_bits(table: &mut [Driven], mem: MemId, port: u32, bits: &[NetId])
-    requires few { length bits.now ≤ 128 }
+    requires few { length bits.now ≤ most_width }
     requires there { IsTrue (are_there (length table.old) bits.now) }
     ensures { table.new ≡ put_all (port_drives mem.place port bits.now) table.old }
 {
@@ -163,7 +164,7 @@ fn drive_memory(table: &mut [Driven], mem: MemId, memory: &Memory)
 
 /// Counts the bits of all memories.
 fn drive_memories(table: &mut [Driven], memories: &[Memory])
-    requires few { length memories.now ≤ 4294967294 }
+    requires few { length memories.now ≤ most_places }
     requires good { IsTrue (list_all (λ memory. memory_good (length table.old) (Some memory)) memories.now) }
     ensures { table.new ≡ put_all (memories_drives memories.now) table.old }
 {
@@ -201,7 +202,7 @@ pub(crate) fn driven_nets(alloc: Global, parts: &Parts) -> Result<Vec<Driven>, N
 
 /// The driver of each net.
 pub(crate) fn drivers_of(alloc: Global, table: &[Driven]) -> Result<Vec<Driver>, TableFault>
-    requires { length table.now ≤ 4294967294 }
+    requires { length table.now ≤ most_places }
     ensures told { IfOk result (λ drivers. AreTold table.now drivers.items) }
     ensures fault { IfErr result (TellsFault table.now) }
 {

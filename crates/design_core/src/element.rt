@@ -12,6 +12,14 @@ pub struct Level {
     pub high: bool,
 }
 
+/// A change of a net that is waited for.
+#[derive(Clone, Copy, Debug, Drop, PartialEq, Eq)]
+pub struct Edge {
+    pub net: NetId,
+    /// Whether the edge is a rising one; else it is a falling one.
+    pub rise: bool,
+}
+
 /// A flip-flop. It takes its data from before an event in which its clock has its edge, unless a
 /// reset acts.
 #[derive(Clone, Copy, Debug, Drop, PartialEq, Eq)]
@@ -49,9 +57,12 @@ pub struct WritePort {
     pub feed: List<NetId>,
 }
 
-/// A read port of a memory. Lists of bits begin at bit 0.
+/// A read port of a memory. Lists of bits begin at bit 0. A port without a clock always shows the word that
+/// its address points at. One with a clock keeps what it shows until its edge; it then shows the word that
+/// its address pointed at before the event, whatever the event writes there.
 #[derive(Debug, Drop)]
 pub struct ReadPort {
+    pub clock: Option<Edge>,
     pub address: List<NetId>,
     /// The nets that the port drives.
     pub bits: List<NetId>,

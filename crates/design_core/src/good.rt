@@ -2,10 +2,12 @@
 
 ghost use Rattle.std.specs.Prelude.{◌≡◌, ◌==◌, ◌&&◌, ◌+◌, ◌^◌, None, Some, length, nat_le, nat_lt};
 ghost use Rattle.std.specs.List.{enumerate_from, list_all};
-ghost use Rattle.design_core.specs.Design.{element_reads, memory_fits, reset_nets, write_reads};
-ghost use Rattle.design_core.specs.Faults.{are_there, around_good, element_outputs, inputs_fit, is_there, memory_good, parent_earlier, ports_there};
+ghost use Rattle.design_core.specs.Design.{clock_nets, element_reads, inputs_fit, memory_fits, read_reads, reset_nets, write_reads};
+ghost use Rattle.design_core.specs.Most.{most_ports};
+ghost use Rattle.design_core.specs.Faults.{are_there, around_good, element_outputs, is_there, memory_good, parent_earlier, ports_there};
 
-use crate::{Element, Level, Memory, NetName, Op, Parts, Port, ReadPort, Scope, WritePort};
+use crate::limits::{MOST_ADDRESS_BITS, MOST_PORTS, MOST_WIDTH};
+use crate::{Edge, Element, Level, Memory, NetName, Op, Parts, Port, ReadPort, Scope, WritePort};
 use id_arena::{Key, NetId};
 
 /// Whether a net is there, among so many.
@@ -106,14 +108,14 @@ fn reads_fit(ports: &[ReadPort], address_bits: u64, width: u64) -> bool
     ports.iter().all(|port| port.address.len() == address_bits && port.bits.len() == width)
 }
 
-/// Whether a memory has at most 16 ports.
+/// Whether a memory has no more ports than it may.
 fn ports_fit(writes: u64, reads: u64) -> bool
-    ensures { result ≡ nat_le (writes + reads) 16 }
+    ensures { result ≡ nat_le (writes + reads) most_ports }
 {
-    if writes > 16 {
+    if writes > MOST_PORTS {
         return false;
     }
-    reads <= 16 - writes
+    reads <= MOST_PORTS - writes
 }
 
 /// Whether a memory's dimensions are within the limits, and its ports have the lengths that they say.
@@ -121,9 +123,9 @@ fn memory_fits(memory: &Memory) -> bool
     ensures { result ≡ memory_fits memory.now }
 {
     let (address_bits, width) = (u64::from(memory.address_bits), u64::from(memory.width));
-    address_bits <= 16
+    address_bits <= MOST_ADDRESS_BITS
         && 0 < width
-        && width <= 128
+        && width <= MOST_WIDTH
         && ports_fit(memory.writes.len(), memory.reads.len())
         && writes_fit(memory.writes.as_slice(), address_bits, width)
         && reads_fit(memory.reads.as_slice(), address_bits, width)
@@ -146,16 +148,28 @@ fn writes_there(nets: u64, ports: &[WritePort]) -> bool
     ports.iter().all(|port| write_there(nets, port))
 }
 
+/// Whether the net of a read port's clock is there.
+fn clock_there(nets: u64, clock: Option<Edge>) -> bool
+    ensures { result ≡ are_there nets (clock_nets clock) }
+{
+    match clock {
+        None => true,
+        Some(edge) => is_there(nets, edge.net),
+    }
+}
+
 /// Whether the nets of a read port are there.
 fn read_there(nets: u64, port: &ReadPort) -> bool
-    ensures { result ≡ (are_there nets port.now.address && are_there nets port.now.bits) }
+    ensures { result ≡ (are_there nets (read_reads port.now) && are_there nets port.now.bits) }
 {
-    are_there(nets, port.address.as_slice()) && are_there(nets, port.bits.as_slice())
+    clock_there(nets, port.clock)
+        && are_there(nets, port.address.as_slice())
+        && are_there(nets, port.bits.as_slice())
 }
 
 /// Whether the nets of all read ports are there.
 fn reads_there(nets: u64, ports: &[ReadPort]) -> bool
-    ensures { result ≡ list_all (λ port. are_there nets port.address && are_there nets port.bits) ports.now }
+    ensures { result ≡ list_all (λ port. are_there nets (read_reads port) && are_there nets port.bits) ports.now }
 {
     ports.iter().all(|port| read_there(nets, port))
 }

@@ -24,7 +24,7 @@ mod tests;
 mod values;
 
 pub use design::Design;
-pub use element::{Driver, Element, Flop, Latch, Level, Memory, ReadPort, WritePort};
+pub use element::{Driver, Edge, Element, Flop, Latch, Level, Memory, ReadPort, WritePort};
 pub use fault::{DesignFault, LimitKind};
 pub use node::NodeId;
 pub use operation::Op;

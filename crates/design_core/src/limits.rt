@@ -4,6 +4,7 @@ ghost use Rattle.std.specs.Prelude.{◌≡◌, ◌≤◌, ◌^◌, IsTrue, Match
 ghost use Rattle.std.specs.List.{list_all};
 ghost use Rattle.design_core.specs.Design.{memory_fits, net_count};
 ghost use Rattle.design_core.specs.Faults.{IsFirstLimit};
+ghost use Rattle.design_core.specs.Most.{most_words};
 ghost use Rattle.design_core.specs.Limits.{IsWithin, inputs_within, most_inputs};
 
 use crate::{Element, LimitKind, Memory, Op, Parts};
@@ -14,13 +15,26 @@ const MOST_ELEMENTS: u64 = 200_000;
 
 const MOST_WORDS: u64 = 4_194_304;
 
+const MOST_TABLE_INPUTS: u64 = 6;
+
+const MOST_GATE_INPUTS: u64 = 64;
+
+/// The most address bits of a memory.
+pub(crate) const MOST_ADDRESS_BITS: u64 = 16;
+
+/// The most bits of a word.
+pub(crate) const MOST_WIDTH: u64 = 128;
+
+/// The most ports of a memory.
+pub(crate) const MOST_PORTS: u64 = 16;
+
 /// How many inputs a gate may have.
 fn most_inputs(op: Op) -> u64
     ensures { result ≡ most_inputs op }
 {
     match op {
-        Op::Table(_) => 6,
-        _ => 64,
+        Op::Table(_) => MOST_TABLE_INPUTS,
+        _ => MOST_GATE_INPUTS,
     }
 }
 
@@ -53,7 +67,7 @@ pub(crate) fn word_number(memory: &Memory) -> u64
 /// Whether all memories have together no more words than they may.
 fn words_within(memories: &[Memory]) -> bool
     requires { IsTrue (list_all memory_fits memories.now) }
-    ensures { result ≡ nat_le (sum_by (λ memory. 2 ^ memory.address_bits) memories.now) 4194304 }
+    ensures { result ≡ nat_le (sum_by (λ memory. 2 ^ memory.address_bits) memories.now) most_words }
 {
     let mut words = 0u64;
     'memories: for memory in memories {

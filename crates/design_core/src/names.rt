@@ -2,8 +2,8 @@
 
 ghost use Rattle.std.specs.Prelude.{◌≡◌, ◌<◌, ◌≤◌, ◌++◌, [], if◌then◌else◌, codes, IfOk, OnOk, length, map};
 ghost use Rattle.design_core.specs.Design.{net_count};
-ghost use Rattle.design_core.specs.Names.{IsElementPath, IsNamed, IsNetText, IsPathIn, IsTrail, before_name, escaped, index_text};
-ghost use Rattle.design_core.specs.Trails.{AreOutward, AreScopes, name_at, parent_at};
+ghost use Rattle.design_core.specs.Names.{AreOutward, IsElementPath, IsNamed, IsNetText, IsPathIn, IsTrail, before_name, escaped, index_text};
+ghost use Rattle.design_core.specs.Trails.{AreScopes, name_at, parent_at};
 
 use crate::{Parts, Scope};
 use emu_io::{NoMemory, Text};

@@ -1,6 +1,6 @@
 //! What a gate does.
 
-/// The operation of a gate: one of the eight gate words of Verilog, or a truth table.
+/// What a gate computes: what one of the words for gates says, which Verilog has eight of, or a table.
 ///
 /// Bit `i` of a table is the output where input `j` contributes `2^j` to `i`.
 #[derive(Clone, Copy, Debug, Drop, PartialEq, Eq)]

@@ -1,11 +1,11 @@
 //! The least net that is read and that nothing drives.
 
 ghost use Rattle.std.specs.Prelude.{◌≡◌, None, flat_map};
-ghost use Rattle.design_core.specs.Design.{element_reads, memory_reads, nets_read, port_bits, reset_nets, write_reads};
+ghost use Rattle.design_core.specs.Design.{clock_nets, element_reads, memory_reads, nets_read, port_bits, read_reads, reset_nets, write_reads};
 ghost use Rattle.design_core.specs.Reads.{lesser, lower, lowest, never_at};
 
 use crate::drives::Driven;
-use crate::{Element, Level, Memory, Parts, Port, ReadPort, WritePort};
+use crate::{Edge, Element, Level, Memory, Parts, Port, ReadPort, WritePort};
 use id_arena::{Key, NetId};
 
 /// Whether nothing drives a net.
@@ -119,13 +119,32 @@ fn lowest_writes(table: &[Driven], least: Option<NetId>, ports: &[WritePort]) ->
     found
 }
 
-/// The same of the addresses of all read ports.
+/// The same of the net of a read port's clock.
+fn lowest_clock(table: &[Driven], least: Option<NetId>, clock: Option<Edge>) -> Option<NetId>
+    ensures { result ≡ lowest table.now least (clock_nets clock) }
+{
+    match clock {
+        None => least,
+        Some(edge) => lower(table, least, edge.net),
+    }
+}
+
+/// The same of the nets that a read port reads.
+#[tactic(auto, using(crate::proofs::Lowest::append_rules))]
+fn lowest_read(table: &[Driven], least: Option<NetId>, port: &ReadPort) -> Option<NetId>
+    ensures { result ≡ lowest table.now least (read_reads port.now) }
+{
+    let least = lowest_clock(table, least, port.clock);
+    lowest(table, least, port.address.as_slice())
+}
+
+/// The same of the nets that all read ports read.
 fn lowest_reads(table: &[Driven], least: Option<NetId>, ports: &[ReadPort]) -> Option<NetId>
-    ensures { result ≡ lowest table.now least (flat_map (λ port. port.address) ports.now) }
+    ensures { result ≡ lowest table.now least (flat_map read_reads ports.now) }
 {
     let mut found = least;
     'ports: for port in ports {
-        found = lowest(table, found, port.address.as_slice());
+        found = lowest_read(table, found, port);
     }
     found
 }

@@ -4,8 +4,8 @@ ghost use Rattle.std.specs.Prelude.{◌≡◌, IsTrue};
 ghost use Rattle.design_core.specs.Limits.{IsCountable};
 
 use crate::{
-    Design, DesignFault, Driver, Element, Flop, Level, LimitKind, Memory, NetName, Op, Parts, Port,
-    ReadPort, Scope, WritePort,
+    Design, DesignFault, Driver, Edge, Element, Flop, Level, LimitKind, Memory, NetName, Op, Parts,
+    Port, ReadPort, Scope, WritePort,
 };
 use emu_io::{List, NoMemory, Text};
 use id_arena::{ElemId, Key, MemId, NetId};
@@ -63,6 +63,7 @@ fn writes(alloc: Global) -> Result<List<WritePort>, NoMemory> {
 fn reads(alloc: Global) -> Result<List<ReadPort>, NoMemory> {
     let mut reads = List::new(alloc);
     reads.push(ReadPort {
+        clock: None,
         address: nets(alloc, &[6])?,
         bits: nets(alloc, &[7])?,
     })?;
@@ -219,6 +220,8 @@ enum Change {
     Element,
     Path,
     Memory,
+    /// A read port more, with the address of net 2: the nets of its clock and of its bit.
+    Read(u32, u32),
     /// The net of the output.
     Output(u32),
 }
@@ -258,6 +261,24 @@ fn with_memory(alloc: Global) -> Result<Parts, NoMemory> {
     Ok(more)
 }
 
+/// The parts with one read port more, which takes a word at the falling edge of its clock.
+fn with_read(alloc: Global, clock: u32, bit: u32) -> Result<Parts, NoMemory> {
+    let mut wider = memory(alloc)?;
+    wider.reads.push(ReadPort {
+        clock: Some(Edge {
+            net: net(clock),
+            rise: false,
+        }),
+        address: nets(alloc, &[2])?,
+        bits: nets(alloc, &[bit])?,
+    })?;
+    let mut memories = List::new(alloc);
+    memories.push(wider)?;
+    let mut more = parts(alloc)?;
+    more.memories = memories;
+    Ok(more)
+}
+
 /// The parts with another output.
 fn with_output(alloc: Global, output: u32) -> Result<Parts, NoMemory> {
     let mut other = parts(alloc)?;
@@ -273,12 +294,13 @@ fn changed(alloc: Global, change: &Change) -> Result<Parts, NoMemory> {
         Change::Element => with_element(alloc, Element::Memory(MemId::of(0))),
         Change::Path => with_path(alloc),
         Change::Memory => with_memory(alloc),
+        Change::Read(clock, bit) => with_read(alloc, *clock, *bit),
         Change::Output(output) => with_output(alloc, *output),
     }
 }
 
 /// Changes, and the fault that each must get: its kind, its number and its name.
-const REFUSED: [(Change, &str, u32, &str); 15] = [
+const REFUSED: [(Change, &str, u32, &str); 18] = [
     // nets that are not there, and inputs or a table that the operation can't have
     (Change::Gate(Op::And, &[2, 9], 4), "bad", 3, ""),
     (Change::Gate(Op::And, &[2, 2], 9), "bad", 3, ""),
@@ -286,6 +308,7 @@ const REFUSED: [(Change, &str, u32, &str); 15] = [
     (Change::Gate(Op::Not, &[2, 3], 4), "bad", 3, ""),
     (Change::Gate(Op::Table(16), &[2, 3], 4), "bad", 3, ""),
     (Change::Element, "bad", 3, ""),
+    (Change::Read(9, 4), "bad", 2, ""),
     // the rest
     (Change::Path, "bad", 3, ""),
     (Change::Memory, "bad", 3, ""),
@@ -297,6 +320,8 @@ const REFUSED: [(Change, &str, u32, &str); 15] = [
     (Change::Gate(Op::Buf, &[2], 2), "twice", 2, "a[2]"),
     (Change::Gate(Op::Buf, &[8], 4), "undriven", 8, "u~0~11/z"),
     (Change::Output(4), "undriven", 4, "w"),
+    (Change::Read(3, 6), "twice", 6, "u~0~11/q/~[6]"),
+    (Change::Read(4, 8), "undriven", 4, "w"),
 ];
 
 #[test]
@@ -315,11 +340,12 @@ fn stands(alloc: Global, parts: Parts) -> bool {
 }
 
 /// Changes that leave the parts sound.
-const TAKEN: [Change; 4] = [
+const TAKEN: [Change; 5] = [
     Change::Nothing,
     Change::Wide(64, 4),
     Change::Gate(Op::Table(15), &[2, 3], 8),
     Change::Output(0),
+    Change::Read(3, 4),
 ];
 
 #[test]
@@ -408,6 +434,24 @@ fn readers_give_the_parts(rt: HostRuntime) -> Result<(), Fail> {
     assert!(rt; is_countable(&sound));
     match Design::build(alloc, sound) {
         Ok(design) => assert!(rt; readers_answer(alloc, &design)?),
+        Err(_fault) => panic!(rt; "the parts are sound"),
+    }
+    Ok(())
+}
+
+/// Whether the bit of the clocked port drives net 4, and the memory weighs what it did.
+fn clocked_bit_drives(alloc: Global, design: &Design) -> Result<bool, NoMemory> {
+    let driver = Driver::Read(MemId::of(0), 1, 0);
+    Ok(net_is(alloc, design, 4, driver, "w")? && elem_is(alloc, design, 2, 2, "u~0~11/v")?)
+}
+
+#[test]
+fn a_clocked_port_drives_its_bits(rt: HostRuntime) -> Result<(), Fail> {
+    let alloc = rt.alloc();
+    let sound = with_read(alloc, 3, 4)?;
+    assert!(rt; is_countable(&sound));
+    match Design::build(alloc, sound) {
+        Ok(design) => assert!(rt; clocked_bit_drives(alloc, &design)?),
         Err(_fault) => panic!(rt; "the parts are sound"),
     }
     Ok(())

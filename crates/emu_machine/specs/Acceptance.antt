@@ -1,6 +1,6 @@
 -- The twelve rules of acceptance, A1 to A12: where each of them fails, and the first failure.
 -- The rules are told in docs/RULES.md, "Acceptance".
-use Rattle.std.specs.Prelude.{◌≡◌, ◌≢◌, ◌<◌, ◌+◌, ◌*◌, ◌^◌, ◌⊎◌, ℕ, ◌==◌, ◌&&◌, ◌||◌, nat_lt, nat_le, Bool, true, false, not, is_some, if◌then◌else◌, IsTrue, IsSomeAnd, Option, Some, None, List, [], ◌∷◌, length, take, slice_get, unwrap_or, option_and_then, count_by, sum_by, zip, bytes_eq}
+use Rattle.std.specs.Prelude.{◌≡◌, ◌≢◌, ◌<◌, ◌+◌, ◌⊎◌, ℕ, ◌==◌, ◌&&◌, ◌||◌, nat_lt, nat_le, Bool, true, false, not, is_some, if◌then◌else◌, IsTrue, IsSomeAnd, Option, Some, None, List, [], ◌∷◌, ◌++◌, map, length, take, slice_get, unwrap_or, option_and_then, count_by, sum_by, flat_map, zip, bytes_eq, Contains}
 use Rattle.std.specs.List.{list_any, list_all, enumerate_from}
 use Rattle.std.specs.Option.{option_map_or}
 use Rattle.id_arena.specs.declared.keys.NetId.{NetId}
@@ -8,6 +8,7 @@ use Rattle.id_arena.specs.declared.keys.ChipNetId.{ChipNetId}
 use Rattle.id_arena.specs.declared.wire.Wire.{Wire}
 use Rattle.id_arena.specs.BoardPlan.{BoardPlan}
 use Rattle.design_core.specs.declared.element.Element.{Element}
+use Rattle.design_core.specs.declared.element.Memory.{Memory}
 use Rattle.design_core.specs.declared.element.Element.TheVariants as element
 use Rattle.design_core.specs.declared.element.Driver.{Driver}
 use Rattle.design_core.specs.declared.element.Driver.TheVariants as driven
@@ -15,7 +16,9 @@ use Rattle.design_core.specs.declared.node.NodeId.{NodeId}
 use Rattle.design_core.specs.declared.node.NodeId.TheVariants as node
 use Rattle.design_core.specs.declared.parts.Parts.{Parts}
 use Rattle.design_core.specs.Design.{driver, port_bits, includes}
+use Rattle.design_core.specs.Weight.{words_weight}
 use Rattle.design_core.specs.Influence.{Group, all_groups, IsInfluence}
+use Rattle.emu_machine.specs.declared.netlist.Chip.{Chip}
 use Rattle.emu_machine.specs.declared.netlist.EmuGate.{EmuGate}
 use Rattle.emu_machine.specs.declared.netlist.EmuMemory.{EmuMemory}
 use Rattle.emu_machine.specs.declared.netlist.EmuRead.{EmuRead}
@@ -23,6 +26,7 @@ use Rattle.emu_machine.specs.declared.netlist.EmuRegister.{EmuRegister}
 use Rattle.emu_machine.specs.declared.schedule.Action.{Action}
 use Rattle.emu_machine.specs.declared.schedule.Action.TheVariants as action
 use Rattle.emu_machine.specs.declared.schedule.Frame.{Frame}
+use Rattle.emu_machine.specs.declared.schedule.Slot.{Slot}
 use Rattle.emu_machine.specs.declared.map.Subject.{Subject}
 use Rattle.emu_machine.specs.declared.map.Subject.TheVariants.{Net, Next}
 use Rattle.emu_machine.specs.declared.map.Spot.{Spot}
@@ -32,10 +36,10 @@ use Rattle.emu_machine.specs.declared.place.Thing.{Thing}
 use Rattle.emu_machine.specs.declared.place.Thing.TheVariants as thing
 use Rattle.emu_machine.specs.declared.results.Results.{Results}
 use Rattle.emu_machine.specs.Netlist.{chip_at, through_gates, IsOnCycle}
-use Rattle.emu_machine.specs.State.{frame_slots, read_port, write_port}
+use Rattle.emu_machine.specs.State.{frame_slots, actions_of, Timed, timed, timed_actions, is_under_way, is_last, read_port, write_port}
 use Rattle.emu_machine.specs.Mapped.{subject, is_kept, chip_map}
-use Rattle.emu_machine.specs.Marks.{Mark, no_mark, only_before, MarkState, gate_mark, driver_mark, net_mark, start_marks, marks_after, writes_of}
-use Rattle.emu_machine.specs.Origins.{same_subject, has_subject, gate_fits, register_fits, memory_fits}
+use Rattle.emu_machine.specs.Marks.{Mark, no_mark, only_before, MarkState, gate_mark, driver_mark, net_mark, marks_at, writes_of}
+use Rattle.emu_machine.specs.Origins.{same_subject, has_subject, gate_fits, register_fits, memory_fits, keeps_read}
 
 -- what is judged: a design, its groups, a board, and results for them
 pub record Case : Type 0 where
@@ -94,7 +98,7 @@ subject_weight p gate (Some (Next e)) = 8
 subject_weight p gate other = 0
 
 abbrev pub memory_weight : EmuMemory → ℕ
-memory_weight memory = 2 ^ memory.address_bits * memory.width
+memory_weight memory = words_weight memory.address_bits memory.width
 
 abbrev pub chip_weight : Case → ℕ → ℕ
 chip_weight c k =
@@ -117,12 +121,15 @@ frame_differs c (Some frame) (Some group) = not (frame_fits c frame group)
 
 -- ## A5: actions name what is there
 
--- the action of a place: frame, slot, and place in the slot
+-- the actions of slot `t` of frame `k`
 abbrev pub slot_actions : Case → ℕ → ℕ → List Action
-slot_actions c k t = option_map_or (λ slot. slot.actions) (slice_get (frame_slots c.results k) t) []
+slot_actions c k t = actions_of (frame_slots c.results k) t
+
+abbrev pub register_of : List Chip → ℕ → ℕ → Option EmuRegister
+register_of chips k r = slice_get (chip_at chips k).registers r
 
 abbrev pub register_at : Case → ℕ → ℕ → Option EmuRegister
-register_at c k r = slice_get (chip_at c.results.net k).registers r
+register_at c k r = register_of c.results.net k r
 
 -- a register takes what `input` and `send` give where it has no D, and is loaded where it has one
 abbrev pub is_hold : Option EmuRegister → Bool
@@ -136,43 +143,78 @@ is_loaded (Some register) = is_some register.d
 abbrev pub is_in_group : Case → ℕ → ℕ → Bool
 is_in_group c k n = option_map_or (λ g. includes g.nets n) (slice_get (all_groups c.design c.groups) k) false
 
-abbrev pub send_fits : Case → ChipNetId → ℕ → Option Wire → Bool
-send_fits c net register None = false
-send_fits c net register (Some ends) =
-    nat_lt net.place (chip_at c.results.net ends.from).nets && is_hold (register_at c ends.to register)
+-- a `send` of a net that is there, into a register at the far end that is given what it holds, fits where it
+-- arrives within the slots of its frame
+abbrev pub send_fits : List Chip → ℕ → ℕ → ChipNetId → ℕ → Option Wire → Bool
+send_fits chips slots t net register None = false
+send_fits chips slots t net register (Some ends) =
+    nat_lt net.place (chip_at chips ends.from.place).nets
+    && is_hold (register_of chips ends.to.place register)
+    && nat_le (t + ends.latency) slots
 
--- an action fits in frame `k` where all that it names is there and of its kind
-abbrev pub action_fits : Case → ℕ → Action → Bool
-action_fits c k (action.Input chip register net) = is_hold (register_at c chip.place register.place) && is_in_group c k net.place
-action_fits c k (action.Load chip register) = is_loaded (register_at c chip.place register.place)
-action_fits c k (action.Send wire net register) = send_fits c net register.place (slice_get c.board.wires wire.place)
-action_fits c k (action.Write chip mem port) = is_some (write_port c.results.net chip.place mem.place port)
-action_fits c k (action.Read chip mem port) = is_some (read_port c.results.net chip.place mem.place port)
+-- An action of slot `t` fits in a frame of so many slots where all that it names is there and of its kind,
+-- an `input` takes one of the inputs that the test tells, and a `send` arrives within the frame.
+abbrev pub action_fits : List Chip → List Wire → (ℕ → Bool) → ℕ → ℕ → Action → Bool
+action_fits chips wires is_input slots t (action.Input chip register net) =
+    is_hold (register_of chips chip.place register.place) && is_input net.place
+action_fits chips wires is_input slots t (action.Load chip register) = is_loaded (register_of chips chip.place register.place)
+action_fits chips wires is_input slots t (action.Send wire net register) =
+    send_fits chips slots t net register.place (slice_get wires wire.place)
+action_fits chips wires is_input slots t (action.Write chip mem port) = is_some (write_port chips chip.place mem.place port)
+action_fits chips wires is_input slots t (action.Read chip mem port) = is_some (read_port chips chip.place mem.place port)
+
+-- an action of slot `t` fits in frame `k`, whose group tells the inputs
+abbrev pub case_action_fits : Case → ℕ → ℕ → Action → Bool
+case_action_fits c k t = action_fits c.results.net c.board.wires (is_in_group c k) (length (frame_slots c.results k)) t
 
 -- ## A6: nothing is used twice in a slot
 
--- what an action uses: a `send` its wire and the register at the far end, others their register or memory
-abbrev pub uses : Case → Action → List Thing
-uses c (action.Input chip register net) = thing.Register chip register ∷ []
-uses c (action.Load chip register) = thing.Register chip register ∷ []
-uses c (action.Send wire net register) =
-    thing.Wire wire ∷ option_map_or (λ ends. thing.Register (record { place = ends.to }) register ∷ []) (slice_get c.board.wires wire.place) []
-uses c (action.Write chip mem port) = thing.Memory chip mem ∷ []
-uses c (action.Read chip mem port) = thing.Memory chip mem ∷ []
+-- a thing that is used, if it is
+abbrev pub used_if : Bool → Thing → List Thing
+used_if test what = if test then what ∷ [] else []
+
+-- what an action uses: a `send` its wire while it is under way, and in its last slot the register at the far
+-- end; others, which last one slot, their register or memory
+abbrev pub uses_of : List Wire → Bool → Bool → Action → List Thing
+uses_of wires under_way last (action.Input chip register net) = used_if last (thing.Register chip register)
+uses_of wires under_way last (action.Load chip register) = used_if last (thing.Register chip register)
+uses_of wires under_way last (action.Send wire net register) =
+    used_if under_way (thing.Wire wire)
+    ++ option_map_or (λ ends. used_if last (thing.Register ends.to register)) (slice_get wires wire.place) []
+uses_of wires under_way last (action.Write chip mem port) = used_if last (thing.Memory chip mem)
+uses_of wires under_way last (action.Read chip mem port) = used_if last (thing.Memory chip mem)
+
+-- what an action of a frame uses in slot `t`
+abbrev pub uses_in : List Wire → ℕ → Timed → List Thing
+uses_in wires t a = uses_of wires (is_under_way wires t a) (is_last wires t a) a.action
 
 abbrev pub same_thing : Thing → Thing → Bool
 same_thing (thing.Wire a) (thing.Wire b) = a.place == b.place
+same_thing (thing.Wire a) (thing.Register b j) = false
+same_thing (thing.Wire a) (thing.Memory b j) = false
+same_thing (thing.Register a i) (thing.Wire b) = false
 same_thing (thing.Register a i) (thing.Register b j) = (a.place == b.place) && (i.place == j.place)
+same_thing (thing.Register a i) (thing.Memory b j) = false
+same_thing (thing.Memory a i) (thing.Wire b) = false
+same_thing (thing.Memory a i) (thing.Register b j) = false
 same_thing (thing.Memory a i) (thing.Memory b j) = (a.place == b.place) && (i.place == j.place)
-same_thing a b = false
 
-abbrev pub uses_thing : Case → Thing → Action → Bool
-uses_thing c t a = list_any (same_thing t) (uses c a)
+abbrev pub uses_thing : List Wire → ℕ → Thing → Timed → Bool
+uses_thing wires t what a = list_any (same_thing what) (uses_in wires t a)
 
--- an action uses a thing, and an earlier action of its slot uses it too
-abbrev pub uses_again : Case → List Action → ℕ → Thing → Bool
-uses_again c actions j t =
-    option_map_or (uses_thing c t) (slice_get actions j) false && list_any (uses_thing c t) (take j actions)
+-- the actions of a frame that stand before place `j` of slot `t`, by slot and then by place
+abbrev pub earlier_actions : List Slot → ℕ → ℕ → List Timed
+earlier_actions slots t j = timed_actions (take t slots) ++ map (timed t) (take j (actions_of slots t))
+
+-- the action at place `j` of slot `t` uses a thing in a slot in which an earlier action uses it too
+pub record UsesAgain (wires : List Wire) (slots : List Slot) (t j : ℕ) (what : Thing) : Type 0 where
+  pub action : Action
+  pub here : slice_get (actions_of slots t) j ≡ Some action
+  pub earlier : Timed
+  pub before : Contains (earlier_actions slots t j) earlier
+  pub slot : ℕ
+  pub uses : uses_thing wires slot what (timed t action) ≡ true
+  pub used : uses_thing wires slot what earlier ≡ true
 
 -- ## A8 and A10: what is sent and taken in
 
@@ -188,8 +230,10 @@ register_subject c k r = option_and_then (λ register. subject c.results k regis
 abbrev pub keeps_subject : Case → Action → Bool
 keeps_subject c (action.Input chip register net) = same_subjects (register_subject c chip.place register.place) (Some (Net net))
 keeps_subject c (action.Send wire net register) =
-    option_map_or (λ ends. same_subjects (subject c.results ends.from net.place) (register_subject c ends.to register.place)) (slice_get c.board.wires wire.place) false
-keeps_subject c other = true
+    option_map_or (λ ends. same_subjects (subject c.results ends.from.place net.place) (register_subject c ends.to.place register.place)) (slice_get c.board.wires wire.place) false
+keeps_subject c (action.Load chip register) = true
+keeps_subject c (action.Write chip mem port) = true
+keeps_subject c (action.Read chip mem port) = true
 
 abbrev pub is_inside : (NodeId → Bool) → Option Subject → Bool
 is_inside inside (Some (Net n)) = inside (node.Net n)
@@ -198,8 +242,11 @@ is_inside inside other = false
 -- a `send` carries a net of the frame's influence
 abbrev pub sends_inside : Case → (NodeId → Bool) → Action → Bool
 sends_inside c inside (action.Send wire net register) =
-    option_map_or (λ ends. is_inside inside (subject c.results ends.from net.place)) (slice_get c.board.wires wire.place) false
-sends_inside c inside other = true
+    option_map_or (λ ends. is_inside inside (subject c.results ends.from.place net.place)) (slice_get c.board.wires wire.place) false
+sends_inside c inside (action.Input chip register net) = true
+sends_inside c inside (action.Load chip register) = true
+sends_inside c inside (action.Write chip mem port) = true
+sends_inside c inside (action.Read chip mem port) = true
 
 -- ## A9: everything is mapped
 
@@ -215,12 +262,21 @@ is_register_kept r n = list_any (λ (k, chip). chip_keeps r n k) (enumerate_from
 abbrev pub times_named : Results → ℕ → ℕ
 times_named r m = sum_by (λ entry. count_by (λ memory. memory.of.place == m) entry.memories) r.map.chips
 
--- a flip-flop's or latch's output has a kept register, and a memory stands on one chip once
-abbrev pub is_element_mapped : Results → Element → Bool
-is_element_mapped r (element.Gate op inputs output) = true
-is_element_mapped r (element.Flop f) = is_register_kept r f.q
-is_element_mapped r (element.Latch l) = is_register_kept r l.q
-is_element_mapped r (element.Memory m) = times_named r m.place == 1
+-- the bits of the read ports of a memory that have a clock
+abbrev pub clocked_bits : Memory → List NetId
+clocked_bits memory = flat_map (λ port. if is_some port.clock then port.bits else []) memory.reads
+
+abbrev pub bits_kept : Results → Memory → Bool
+bits_kept r memory = list_all (is_register_kept r) (clocked_bits memory)
+
+-- A flip-flop's or latch's output has a kept register. A memory stands on one chip once, and each bit of its
+-- read ports with a clock has a kept register.
+abbrev pub is_element_mapped : Parts → Results → Element → Bool
+is_element_mapped p r (element.Gate op inputs output) = true
+is_element_mapped p r (element.Flop f) = is_register_kept r f.q
+is_element_mapped p r (element.Latch l) = is_register_kept r l.q
+is_element_mapped p r (element.Memory m) =
+    (times_named r m.place == 1) && option_map_or (bits_kept r) (slice_get p.memories m.place) true
 
 abbrev pub spot_subject : Results → Spot → Option Subject
 spot_subject r spot = subject r spot.chip.place spot.net.place
@@ -236,7 +292,7 @@ output_differs r (Some spot) (Some n) = not (same_subjects (spot_subject r spot)
 
 abbrev pub end_marks : Case → (ℕ → NodeId → Bool) → ℕ → MarkState
 end_marks c inside k =
-    marks_after c.design c.results c.board.wires (inside k) (frame_slots c.results k) (start_marks c.design c.results (inside k))
+    marks_at c.design c.results c.board.wires (inside k) (frame_slots c.results k) (length (frame_slots c.results k))
 
 -- whether a net has "after" at the end of a frame
 abbrev pub ends_after : Case → (ℕ → NodeId → Bool) → ℕ → ℕ → ChipNetId → Bool
@@ -247,7 +303,7 @@ is_kept_register r c k = unwrap_or (slice_get (chip_map r c).kept k) false
 
 abbrev pub is_kept_read : Results → ℕ → ℕ → ℕ → Bool
 is_kept_read r c m k =
-    unwrap_or (option_and_then (λ entry. slice_get entry.kept k) (slice_get (chip_map r c).memories m)) false
+    option_map_or (λ entry. keeps_read entry k) (slice_get (chip_map r c).memories m) false
 
 abbrev pub register_ends : Case → (ℕ → NodeId → Bool) → ℕ → ℕ → ℕ → Option EmuRegister → Bool
 register_ends c inside k chip i None = true
@@ -316,14 +372,14 @@ FailsA4 c (place.Frame k) =
     IsTrue (frame_differs c (slice_get c.results.schedule.frames k) (slice_get (all_groups c.design c.groups) k))
 FailsA4 c other = ⊥
 
--- A5: actions name what is there and of its kind
+-- A5: actions name what is there and of its kind, and what is sent arrives within the frame
 abbrev pub FailsA5 : Case → Place → Type 0
-FailsA5 c (place.Action k t j) = fails_test (action_fits c k) (action_at c k t j)
+FailsA5 c (place.Action k t j) = fails_test (case_action_fits c k t) (action_at c k t j)
 FailsA5 c other = ⊥
 
 -- A6: in a slot nothing is used twice
 abbrev pub FailsA6 : Case → Place → Type 0
-FailsA6 c (place.Again k t j what) = IsTrue (uses_again c (slot_actions c k t) j what)
+FailsA6 c (place.Again k t j what) = UsesAgain c.board.wires (frame_slots c.results k) t j what
 FailsA6 c other = ⊥
 
 -- a memory of a chip with its entry in the map
@@ -346,10 +402,10 @@ abbrev pub FailsA8 : Case → Place → Type 0
 FailsA8 c (place.Action k t j) = fails_test (keeps_subject c) (action_at c k t j)
 FailsA8 c other = ⊥
 
--- A9: input bits, flip-flops, latches, memories and output bits are mapped
+-- A9: input bits, flip-flops, latches, memories, bits of clocked read ports and output bits are mapped
 abbrev pub FailsA9 : Case → Place → Type 0
 FailsA9 c (place.Input n) = IsTrue (includes (port_bits c.design.inputs) n.place && not (is_register_kept c.results n))
-FailsA9 c (place.Element e) = fails_test (is_element_mapped c.results) (slice_get c.design.elements e.place)
+FailsA9 c (place.Element e) = fails_test (is_element_mapped c.design c.results) (slice_get c.design.elements e.place)
 FailsA9 c (place.Output k) =
     IsTrue (output_differs c.results (slice_get c.results.map.outputs k) (slice_get (port_bits c.design.outputs) k))
 FailsA9 c other = ⊥

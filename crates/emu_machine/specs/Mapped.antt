@@ -6,16 +6,16 @@ use Rattle.std.specs.Option.{option_map_or}
 use Rattle.design_core.specs.declared.element.Element.{Element}
 use Rattle.design_core.specs.declared.element.Element.TheVariants as element
 use Rattle.design_core.specs.declared.element.Flop.{Flop}
-use Rattle.design_core.specs.declared.element.Latch.{Latch}
 use Rattle.design_core.specs.declared.element.WritePort.{WritePort}
+use Rattle.design_core.specs.declared.element.ReadPort.{ReadPort}
 use Rattle.design_core.specs.declared.element.Driver.TheVariants.{Input}
 use Rattle.design_core.specs.declared.parts.Parts.{Parts}
 use Rattle.design_core.specs.Design.{net_count, driver}
-use Rattle.design_core.specs.Valuation.{Valuation, has_edge, reset_acts, forced, IsAddress}
+use Rattle.design_core.specs.Valuation.{Valuation, has_edge, reset_acts, forced, addressed_bit, IsAddress}
 use Rattle.design_core.specs.Event.{stores}
 use Rattle.emu_machine.specs.declared.netlist.Chip.{Chip}
 use Rattle.emu_machine.specs.declared.map.Subject.{Subject}
-use Rattle.emu_machine.specs.declared.map.Subject.TheVariants.{Net, Up, Down, Take, Next, TakeWrite}
+use Rattle.emu_machine.specs.declared.map.Subject.TheVariants.{Net, Up, Down, Take, Next, TakeWrite, Old, TakeRead}
 use Rattle.emu_machine.specs.declared.map.ChipMap.{ChipMap}
 use Rattle.emu_machine.specs.declared.results.Results.{Results}
 use Rattle.emu_machine.specs.Netlist.{chip_at, is_chip_net}
@@ -25,19 +25,15 @@ abbrev pub as_flop : Element → Option Flop
 as_flop (element.Flop f) = Some f
 as_flop other = None
 
-abbrev pub as_latch : Element → Option Latch
-as_latch (element.Latch l) = Some l
-as_latch other = None
-
--- the flip-flop or latch that an element number means, if it means one
+-- the flip-flop that an element number means, if it means one
 abbrev pub flop_at : Parts → ℕ → Option Flop
 flop_at p k = option_and_then as_flop (slice_get p.elements k)
 
-abbrev pub latch_at : Parts → ℕ → Option Latch
-latch_at p k = option_and_then as_latch (slice_get p.elements k)
-
 abbrev pub design_write : Parts → ℕ → ℕ → Option WritePort
 design_write p m k = option_and_then (λ memory. slice_get memory.writes k) (slice_get p.memories m)
+
+abbrev pub design_read : Parts → ℕ → ℕ → Option ReadPort
+design_read p m k = option_and_then (λ memory. slice_get memory.reads k) (slice_get p.memories m)
 
 -- a flip-flop takes a new value in an event where a reset acts after it or its clock has its edge
 abbrev pub flop_takes : Valuation → Valuation → Flop → Bool
@@ -47,7 +43,12 @@ flop_takes v w f = reset_acts w f.clear || reset_acts w f.preset || has_edge v w
 abbrev pub flop_next : Valuation → Valuation → Flop → Bool
 flop_next v w f = unwrap_or (forced f.clear f.preset w) (v.net f.feed.place)
 
--- the value of a subject in an event from `v` to `w`
+-- a read port takes a word in an event where it has a clock and that has its edge
+abbrev pub read_takes : Valuation → Valuation → ReadPort → Bool
+read_takes v w port = option_map_or (λ clock. has_edge v w clock.net clock.rise) port.clock false
+
+-- The value of a subject in an event from `v` to `w`. A bit of the word that a read port takes is that of
+-- the word in `v` at the port's address in `v`.
 abbrev pub subject_value : Parts → Valuation → Valuation → Subject → Bool
 subject_value p v w (Net n) = w.net n.place
 subject_value p v w (Up n) = not (v.net n.place) && w.net n.place
@@ -55,6 +56,8 @@ subject_value p v w (Down n) = v.net n.place && not (w.net n.place)
 subject_value p v w (Take e) = option_map_or (flop_takes v w) (flop_at p e.place) false
 subject_value p v w (Next e) = option_map_or (flop_next v w) (flop_at p e.place) false
 subject_value p v w (TakeWrite m k) = option_map_or (stores v w) (design_write p m.place k) false
+subject_value p v w (Old m k b) = option_map_or (λ port. addressed_bit v m.place port b) (design_read p m.place k) false
+subject_value p v w (TakeRead m k) = option_map_or (read_takes v w) (design_read p m.place k) false
 
 abbrev pub no_chip_map : ChipMap
 no_chip_map = record { nets = []; kept = []; memories = [] }
@@ -95,7 +98,7 @@ pub record HoldsState (p : Parts) (r : Results) (v : Valuation) (x : State) : Ty
   pub words : (c m of a : ℕ) → memory_of r c m ≡ Some of → IsAddress p of a → x.word c m a ≡ v.word of a
 
 -- A machine is loaded from a valuation where it holds its state and the inputs stand outside. Free
--- registers and free read nets hold anything.
+-- registers and free read nets hold anything, and wires carry anything.
 pub record IsLoaded (p : Parts) (r : Results) (v : Valuation) (x : State) : Type 0 where
   pub state : HoldsState p r v x
   pub outside : (n : ℕ) → n < net_count p → driver p n ≡ Input → x.outside n ≡ v.net n

@@ -1,13 +1,16 @@
 -- The marks "before" and "after" of nets, and the standing of memories, slot by slot.
 -- The rule is told in docs/RULES.md, "Marks".
-use Rattle.std.specs.Prelude.{◌≡◌, ◌+◌, ℕ, ◌==◌, ◌&&◌, ◌||◌, Bool, true, false, not, is_some, if◌then◌else◌, Option, Some, None, List, [], ◌∷◌, map, length, take, slice_get, position, unwrap_or, option_map, option_and_then, count_by}
+use Rattle.std.specs.Prelude.{◌≡◌, ◌+◌, ℕ, zero, suc, ◌==◌, ◌&&◌, ◌||◌, nat_lt, Bool, true, false, not, is_some, if◌then◌else◌, Option, Some, None, List, [], ◌∷◌, map, length, take, slice_get, position, unwrap_or, option_map, option_and_then, count_by, Contains}
 use Rattle.std.specs.List.{list_all}
 use Rattle.std.specs.Option.{option_map_or}
 use Rattle.id_arena.specs.declared.keys.ChipNetId.{ChipNetId}
+use Rattle.id_arena.specs.declared.keys.RegId.{RegId}
+use Rattle.id_arena.specs.declared.keys.WireId.{WireId}
 use Rattle.id_arena.specs.declared.wire.Wire.{Wire}
 use Rattle.design_core.specs.declared.node.NodeId.{NodeId}
 use Rattle.design_core.specs.declared.node.NodeId.TheVariants as node
 use Rattle.id_arena.specs.declared.keys.NetId.{NetId}
+use Rattle.design_core.specs.declared.element.Edge.{Edge}
 use Rattle.design_core.specs.declared.element.Memory.{Memory}
 use Rattle.design_core.specs.declared.element.Element.{Element}
 use Rattle.design_core.specs.declared.element.Element.TheVariants as element
@@ -22,11 +25,11 @@ use Rattle.emu_machine.specs.declared.schedule.Action.{Action}
 use Rattle.emu_machine.specs.declared.schedule.Action.TheVariants.{Input, Load, Send, Write, Read}
 use Rattle.emu_machine.specs.declared.schedule.Slot.{Slot}
 use Rattle.emu_machine.specs.declared.map.Subject.{Subject}
-use Rattle.emu_machine.specs.declared.map.Subject.TheVariants.{Net, Up, Down, Take, Next, TakeWrite}
+use Rattle.emu_machine.specs.declared.map.Subject.TheVariants.{Net, Up, Down, Take, Next, TakeWrite, Old, TakeRead}
 use Rattle.emu_machine.specs.declared.results.Results.{Results}
 use Rattle.emu_machine.specs.Netlist.{chip_at, is_chip_net, through_gates}
-use Rattle.emu_machine.specs.State.{State, net_value, on_register, read_port, write_port, first_given}
-use Rattle.emu_machine.specs.Mapped.{subject, subject_value, memory_of, is_kept}
+use Rattle.emu_machine.specs.State.{State, net_value, on_register, read_port, write_port, first_given, actions_of, Timed, timed_actions, is_under_way, ending}
+use Rattle.emu_machine.specs.Mapped.{subject, subject_value, memory_of, design_read, is_kept}
 
 -- A net that bears "before" shows its subject's value before the event; one that bears "after" shows
 -- its subject's value in the event.
@@ -59,12 +62,14 @@ abbrev pub all_after : List Mark → Bool
 all_after = list_all (λ m. m.after)
 
 -- What the marks rest on: by chip and net, the marks of registers and read nets; by chip and memory,
--- how many write ports are done, whether the memory is broken, and whether any write stood before.
+-- how many write ports are done, whether the memory is broken, and whether any write stood before; by
+-- wire, the marks of the value that it carries.
 pub record MarkState : Type 0 where
   pub on : ℕ → ℕ → Mark
   pub standing : ℕ → ℕ → ℕ
   pub broken : ℕ → ℕ → Bool
   pub wrote : ℕ → ℕ → Bool
+  pub carried : ℕ → Mark
 
 -- a net of the design that the event cannot change has both marks where it has one
 abbrev pub widened : (NodeId → Bool) → Option Subject → Mark → Mark
@@ -96,7 +101,8 @@ driver_mark p (driven.Constant b) ms = both_marks
 driver_mark p (driven.Elem e) ms = element_mark (slice_get p.elements e.place) ms
 driver_mark p other ms = no_mark
 
--- an edge gate has "after" where its first input has "before" and its second "after"
+-- an edge gate bears "after" where its first input shows the clock from before and its second the clock from
+-- after
 abbrev pub edge_mark : List Mark → Mark
 edge_mark (prev ∷ now ∷ []) = after_if (prev.before && now.after)
 edge_mark other = no_mark
@@ -111,6 +117,11 @@ abbrev pub write_take_mark : List Mark → Mark
 write_take_mark (edge ∷ enable ∷ []) = after_if (edge.after && enable.before)
 write_take_mark other = no_mark
 
+-- a read take gate has "after" where its one input, the edge, has it
+abbrev pub read_take_mark : List Mark → Mark
+read_take_mark (edge ∷ []) = after_if edge.after
+read_take_mark other = no_mark
+
 -- the mark of a gate, by the subject of its output and the marks of its inputs in order
 abbrev pub gate_mark : Parts → Option Subject → List Mark → Mark
 gate_mark p (Some (Net n)) ms = driver_mark p (driver p n.place) ms
@@ -119,6 +130,8 @@ gate_mark p (Some (Down n)) ms = edge_mark ms
 gate_mark p (Some (Take e)) ms = after_if (all_after ms)
 gate_mark p (Some (Next e)) ms = next_mark ms
 gate_mark p (Some (TakeWrite m k)) ms = write_take_mark ms
+gate_mark p (Some (Old m k b)) ms = no_mark
+gate_mark p (Some (TakeRead m k)) ms = read_take_mark ms
 gate_mark p None ms = no_mark
 
 -- the marks of a net of a chip
@@ -139,7 +152,8 @@ design_writes p m = option_map_or (λ memory. write_nodes (record { place = m })
 abbrev pub writes_of : Parts → Results → ℕ → ℕ → List NodeId
 writes_of p r c m = option_map_or (design_writes p) (memory_of r c m) []
 
--- at the start of a frame what is kept has "before", and a memory stands at the writes outside the influence
+-- At the start of a frame what is kept has "before", a memory stands at the writes outside the influence,
+-- and no wire carries anything that is known.
 abbrev pub start_marks : Parts → Results → (NodeId → Bool) → MarkState
 start_marks p r inside =
     record {
@@ -147,43 +161,77 @@ start_marks p r inside =
       standing = λ c m. count_by (λ a. not (inside a)) (writes_of p r c m);
       broken = λ c m. false;
       wrote = λ c m. false;
+      carried = λ w. no_mark;
     }
 
--- A load of a register without enable gives it D's marks. With an enable it gives "after" alone, where
--- D and the enable have "after" and the register had a mark; else none.
+-- A register without enable is loaded with the marks of its D. One with an enable ends with "after" alone, if
+-- it had a mark and both D and enable have "after"; else with none.
 abbrev pub load_mark : (ChipNetId → Mark) → ChipNetId → Option ChipNetId → Option ChipNetId → Option Mark
 load_mark mark q None enable = None
 load_mark mark q (Some d) None = Some (mark d)
 load_mark mark q (Some d) (Some enable) =
     Some (after_if ((mark d).after && (mark enable).after && has_some (mark q)))
 
--- A read gives "after" where the address has "after" and all writes are done and unbroken, and "before"
--- where the address has "before" and no write stood in an earlier slot.
-abbrev pub read_mark : MarkState → ℕ → ℕ → ℕ → List Mark → Mark
-read_mark s writes c m address =
+-- the clock of the design's read port that port `k` of memory `m` of chip `c` stands for, if it has one
+abbrev pub clock_of_read : Parts → Results → ℕ → ℕ → ℕ → Option Edge
+clock_of_read p r c m k =
+    option_and_then (λ port. port.clock) (option_and_then (λ of. design_read p of k) (memory_of r c m))
+
+-- nothing is written yet in this frame, and so many write ports are all done, none out of turn
+abbrev pub is_untouched : MarkState → ℕ → ℕ → Bool
+is_untouched s c m = not (s.wrote c m)
+
+abbrev pub is_whole : MarkState → ℕ → ℕ → ℕ → Bool
+is_whole s writes c m = not (s.broken c m) && (s.standing c m == writes)
+
+-- A read of a port without a clock gives "after" where the address has "after" and all writes are done and
+-- unbroken, and "before" where the address has "before" and no write stood in an earlier slot. A read of a
+-- port with a clock gives the word from before: "after" where the address has "before" and no write stood
+-- in an earlier slot.
+abbrev pub read_mark : MarkState → Option Edge → ℕ → ℕ → ℕ → List Mark → Mark
+read_mark s (Some clock) writes c m address = after_if (all_before address && is_untouched s c m)
+read_mark s None writes c m address =
     record {
-      before = all_before address && not (s.wrote c m);
-      after = all_after address && not (s.broken c m) && (s.standing c m == writes);
+      before = all_before address && is_untouched s c m;
+      after = all_after address && is_whole s writes c m;
     }
 
--- the mark that an action gives to net `n` of chip `c`, if it gives one; all is read from `s`
+-- what a `send` gives at its far end: over a latency of one slot the marks that the net has now, and over a
+-- longer one those that the wire carries
+abbrev pub arriving_mark : Parts → Results → (NodeId → Bool) → MarkState → Wire → ℕ → ChipNetId → Mark
+arriving_mark p r inside s ends wire net =
+    if ends.latency == 1 then net_mark p r inside s ends.from.place net.place else s.carried wire
+
+-- the mark that an action gives to net `n` of chip `c` in its last slot, if it gives one; all is read from `s`
 abbrev pub action_mark : Parts → Results → List Wire → (NodeId → Bool) → MarkState → Action → ℕ → ℕ → Option Mark
 action_mark p r wires inside s (Input chip register net) c n =
     on_register r.net chip.place register.place (λ q. Some only_after) c n
 action_mark p r wires inside s (Load chip register) c n =
     on_register r.net chip.place register.place (λ q. load_mark (λ m. net_mark p r inside s chip.place m.place) q.q q.d q.enable) c n
 action_mark p r wires inside s (Send wire net register) c n =
-    option_and_then (λ ends. on_register r.net ends.to register.place (λ q. Some (net_mark p r inside s ends.from net.place)) c n) (slice_get wires wire.place)
+    option_and_then (λ ends. on_register r.net ends.to.place register.place (λ q. Some (arriving_mark p r inside s ends wire.place net)) c n) (slice_get wires wire.place)
 action_mark p r wires inside s (Write chip mem port) c n = None
 action_mark p r wires inside s (Read chip mem port) c n =
     if chip.place == c
-    then option_and_then (λ q. option_map (λ b. read_mark s (length (writes_of p r c mem.place)) c mem.place (net_marks p r inside s c q.address)) (position (is_chip_net n) q.bits)) (read_port r.net c mem.place port)
+    then option_and_then (λ q. option_map (λ b. read_mark s (clock_of_read p r c mem.place port) (length (writes_of p r c mem.place)) c mem.place (net_marks p r inside s c q.address)) (position (is_chip_net n) q.bits)) (read_port r.net c mem.place port)
     else None
 
 -- the write port of memory `m` of chip `c` that an action uses, if it uses one
 abbrev pub port_written : ℕ → ℕ → Action → Option ℕ
 port_written c m (Write chip mem port) = if (chip.place == c) && (mem.place == m) then Some port else None
-port_written c m other = None
+port_written c m (Input chip register net) = None
+port_written c m (Load chip register) = None
+port_written c m (Send wire net register) = None
+port_written c m (Read chip mem port) = None
+
+-- the marks that an action gives to the value on wire `w`, if it gives any: a `send` those of its net
+abbrev pub action_carried_mark : Parts → Results → List Wire → (NodeId → Bool) → MarkState → Action → ℕ → Option Mark
+action_carried_mark p r wires inside s (Send wire net register) w =
+    if wire.place == w then option_map (λ ends. net_mark p r inside s ends.from.place net.place) (slice_get wires w) else None
+action_carried_mark p r wires inside s (Input chip register net) w = None
+action_carried_mark p r wires inside s (Load chip register) w = None
+action_carried_mark p r wires inside s (Write chip mem port) w = None
+action_carried_mark p r wires inside s (Read chip mem port) w = None
 
 -- a write counts where its port is the next one due, its enable has "after", and its address and data have "before"
 abbrev pub write_counts : Parts → Results → (NodeId → Bool) → MarkState → ℕ → ℕ → ℕ → Bool
@@ -194,28 +242,55 @@ write_counts p r inside s c m k =
     (write_port r.net c m k)
     false
 
--- the marks at the end of a slot
-abbrev pub marks_step : Parts → Results → List Wire → (NodeId → Bool) → List Action → MarkState → MarkState
-marks_step p r wires inside actions s =
+-- The marks at the end of slot `t`: registers and read nets take those that the actions give that end in it,
+-- memories and wires what the actions give that stand in it.
+abbrev pub marks_step : Parts → Results → List Wire → (NodeId → Bool) → List Slot → ℕ → MarkState → MarkState
+marks_step p r wires inside slots t s =
+    let written_port : ℕ → ℕ → Option ℕ = λ c m. first_given (port_written c m) (actions_of slots t) in
     record {
-      on = λ c n. unwrap_or (first_given (λ a. action_mark p r wires inside s a c n) actions) (s.on c n);
-      standing = λ c m. option_map_or (λ k. if write_counts p r inside s c m k then s.standing c m + 1 else s.standing c m) (first_given (port_written c m) actions) (s.standing c m);
-      broken = λ c m. s.broken c m || option_map_or (λ k. not (write_counts p r inside s c m k)) (first_given (port_written c m) actions) false;
-      wrote = λ c m. s.wrote c m || is_some (first_given (port_written c m) actions);
+      on = λ c n. unwrap_or (first_given (λ a. action_mark p r wires inside s a c n) (ending wires slots t)) (s.on c n);
+      standing = λ c m. option_map_or (λ k. if write_counts p r inside s c m k then s.standing c m + 1 else s.standing c m) (written_port c m) (s.standing c m);
+      broken = λ c m. s.broken c m || option_map_or (λ k. not (write_counts p r inside s c m k)) (written_port c m) false;
+      wrote = λ c m. s.wrote c m || is_some (written_port c m);
+      carried = λ w. unwrap_or (first_given (λ a. action_carried_mark p r wires inside s a w) (actions_of slots t)) (s.carried w);
     }
 
--- the marks after some slots
-abbrev pub marks_after : Parts → Results → List Wire → (NodeId → Bool) → List Slot → MarkState → MarkState
-marks_after p r wires inside [] s = s
-marks_after p r wires inside (slot ∷ slots) s =
-    marks_after p r wires inside slots (marks_step p r wires inside slot.actions s)
+-- the marks at the start of slot `t` of a frame
+abbrev pub marks_at : Parts → Results → List Wire → (NodeId → Bool) → List Slot → ℕ → MarkState
+marks_at p r wires inside slots zero = start_marks p r inside
+marks_at p r wires inside slots (suc t) = marks_step p r wires inside slots t (marks_at p r wires inside slots t)
 
--- The marks are true of a state, in an event from `v` to `w`: each net that bears one shows what the mark
--- says; each memory that is not broken holds the words after as many write ports as its standing tells;
--- and each input's outside value is that after the event.
-pub record TrueMarks (p : Parts) (r : Results) (inside : NodeId → Bool) (v w : Valuation) (s : MarkState) (x : State) : Type 0 where
-  pub before : (c n : ℕ) (m : NetId) → subject r c n ≡ Some (Net m) → (net_mark p r inside s c n).before ≡ true → net_value r.net x c n ≡ v.net m.place
-  pub after : (c n : ℕ) (what : Subject) → subject r c n ≡ Some what → (net_mark p r inside s c n).after ≡ true → net_value r.net x c n ≡ subject_value p v w what
-  pub words : (c m of a : ℕ) (memory : Memory) → memory_of r c m ≡ Some of → slice_get p.memories of ≡ Some memory → IsAddress p of a → s.broken c m ≡ false
-      → x.word c m a ≡ written v w (take (s.standing c m) memory.writes) a (v.word of a)
+-- an action stands in an earlier slot than `t` and is still under way in it; only a `send` can be
+abbrev pub is_on_its_way : List Wire → ℕ → Timed → Bool
+is_on_its_way wires t a = nat_lt a.slot t && is_under_way wires t a
+
+-- A wire carries what its mark says: where a `send` is on its way at the start of slot `t`, the wire has the
+-- value of the sent net before the event if the net had "before" at the start of the send's slot, and its
+-- value after the event if it had "after" there.
+abbrev pub CarriedTrue : Parts → Results → List Wire → (NodeId → Bool) → List Slot → ℕ → Valuation → Valuation → State → Type 0
+CarriedTrue p r wires inside slots t v w x =
+    (a : Timed) (wire : WireId) (net : ChipNetId) (register : RegId) (ends : Wire) (n : NetId)
+    → Contains (timed_actions slots) a
+    → a.action ≡ Send wire net register
+    → slice_get wires wire.place ≡ Some ends
+    → is_on_its_way wires t a ≡ true
+    → subject r ends.from.place net.place ≡ Some (Net n)
+    → ((net_mark p r inside (marks_at p r wires inside slots a.slot) ends.from.place net.place).before ≡ true → x.carried wire.place ≡ v.net n.place)
+    × ((net_mark p r inside (marks_at p r wires inside slots a.slot) ends.from.place net.place).after ≡ true → x.carried wire.place ≡ w.net n.place)
+
+-- The marks at the start of slot `t` are true of a state, in an event from `v` to `w`: each net that bears one
+-- shows what the mark says; each memory that is not broken holds the words after as many write ports as its
+-- standing tells; each input's outside value is that after the event; and what is on its way is as it was
+-- sent.
+pub record TrueMarks (p : Parts) (r : Results) (wires : List Wire) (inside : NodeId → Bool) (slots : List Slot) (t : ℕ) (v w : Valuation) (x : State) : Type 0 where
+  pub before : (c n : ℕ) (m : NetId) → subject r c n ≡ Some (Net m)
+      → (net_mark p r inside (marks_at p r wires inside slots t) c n).before ≡ true
+      → net_value r.net x c n ≡ v.net m.place
+  pub after : (c n : ℕ) (what : Subject) → subject r c n ≡ Some what
+      → (net_mark p r inside (marks_at p r wires inside slots t) c n).after ≡ true
+      → net_value r.net x c n ≡ subject_value p v w what
+  pub words : (c m of a : ℕ) (memory : Memory) → memory_of r c m ≡ Some of → slice_get p.memories of ≡ Some memory → IsAddress p of a
+      → (marks_at p r wires inside slots t).broken c m ≡ false
+      → x.word c m a ≡ written v w (take ((marks_at p r wires inside slots t).standing c m) memory.writes) a (v.word of a)
   pub outside : (n : ℕ) → driver p n ≡ driven.Input → x.outside n ≡ w.net n
+  pub carried : CarriedTrue p r wires inside slots t v w x

@@ -1,6 +1,6 @@
 -- What each gate, register and memory must be, read off its subjects: the rule A7.
 -- The rule is told in docs/RULES.md, "Acceptance".
-use Rattle.std.specs.Prelude.{ℕ, zero, suc, ◌==◌, ◌&&◌, ◌||◌, nat_lt, Bool, true, false, not, if◌then◌else◌, Option, Some, None, List, [], ◌∷◌, ◌++◌, map, length, slice_get, unwrap_or, option_map, option_to_list, zip, flat_map}
+use Rattle.std.specs.Prelude.{ℕ, zero, suc, ◌==◌, ◌&&◌, ◌||◌, nat_lt, Bool, true, false, not, is_some, if◌then◌else◌, Option, Some, None, List, [], ◌∷◌, ◌++◌, map, length, slice_get, unwrap_or, option_map, option_and_then, option_to_list, zip, flat_map}
 use Rattle.std.specs.List.{list_any, list_all, enumerate_from}
 use Rattle.std.specs.Option.{option_map_or}
 use Rattle.id_arena.specs.declared.keys.NetId.{NetId}
@@ -9,6 +9,7 @@ use Rattle.id_arena.specs.declared.keys.MemId.{MemId}
 use Rattle.id_arena.specs.declared.keys.ChipNetId.{ChipNetId}
 use Rattle.design_core.specs.declared.operation.Op.{Op}
 use Rattle.design_core.specs.declared.operation.Op.TheVariants.{And, Nand, Or, Nor, Xor, Xnor, Buf, Not, Table}
+use Rattle.design_core.specs.declared.element.Edge.{Edge}
 use Rattle.design_core.specs.declared.element.Level.{Level}
 use Rattle.design_core.specs.declared.element.Flop.{Flop}
 use Rattle.design_core.specs.declared.element.Latch.{Latch}
@@ -28,10 +29,10 @@ use Rattle.emu_machine.specs.declared.netlist.EmuMemory.{EmuMemory}
 use Rattle.emu_machine.specs.declared.netlist.EmuRead.{EmuRead}
 use Rattle.emu_machine.specs.declared.netlist.EmuWrite.{EmuWrite}
 use Rattle.emu_machine.specs.declared.map.Subject.{Subject}
-use Rattle.emu_machine.specs.declared.map.Subject.TheVariants.{Net, Up, Down, Take, Next, TakeWrite}
+use Rattle.emu_machine.specs.declared.map.Subject.TheVariants.{Net, Up, Down, Take, Next, TakeWrite, Old, TakeRead}
 use Rattle.emu_machine.specs.declared.map.MemMap.{MemMap}
 use Rattle.emu_machine.specs.declared.results.Results.{Results}
-use Rattle.emu_machine.specs.Mapped.{subject, flop_at, design_write}
+use Rattle.emu_machine.specs.Mapped.{subject, flop_at, design_write, design_read}
 
 -- the values of so many inputs, one list for each row of a table, in the order of the rows
 abbrev pub rows : ℕ → List (List Bool)
@@ -50,11 +51,12 @@ acts_at level value = if level.high then value else not value
 abbrev pub resets : Option Level → Option Level → List Level
 resets clear preset = option_to_list clear ++ option_to_list preset
 
--- the value that resets force, with the value of each that is there, clear first
+-- the value that a preset forces, with the value of its pin
 abbrev pub preset_at : Option Level → List Bool → Option Bool
 preset_at (Some preset) (b ∷ bits) = if acts_at preset b then Some true else None
 preset_at other bits = None
 
+-- the value that resets force, with the value of each that is there, clear first
 abbrev pub forced_at : Option Level → Option Level → List Bool → Option Bool
 forced_at (Some clear) preset (b ∷ bits) = if acts_at clear b then Some false else preset_at preset bits
 forced_at (Some clear) preset [] = None
@@ -90,30 +92,159 @@ abbrev pub write_take_function : WritePort → List Bool → Bool
 write_take_function w (edge ∷ enable ∷ []) = edge && acts_at w.enable enable
 write_take_function w other = false
 
-abbrev pub same_bool : Bool → Bool → Bool
-same_bool true b = b
-same_bool false b = not b
+-- a read take gate: the edge
+abbrev pub read_take_function : List Bool → Bool
+read_take_function (edge ∷ []) = edge
+read_take_function other = false
 
 abbrev pub same_op : Op → Op → Bool
 same_op And And = true
+same_op And Nand = false
+same_op And Or = false
+same_op And Nor = false
+same_op And Xor = false
+same_op And Xnor = false
+same_op And Buf = false
+same_op And Not = false
+same_op And (Table b) = false
+same_op Nand And = false
 same_op Nand Nand = true
+same_op Nand Or = false
+same_op Nand Nor = false
+same_op Nand Xor = false
+same_op Nand Xnor = false
+same_op Nand Buf = false
+same_op Nand Not = false
+same_op Nand (Table b) = false
+same_op Or And = false
+same_op Or Nand = false
 same_op Or Or = true
+same_op Or Nor = false
+same_op Or Xor = false
+same_op Or Xnor = false
+same_op Or Buf = false
+same_op Or Not = false
+same_op Or (Table b) = false
+same_op Nor And = false
+same_op Nor Nand = false
+same_op Nor Or = false
 same_op Nor Nor = true
+same_op Nor Xor = false
+same_op Nor Xnor = false
+same_op Nor Buf = false
+same_op Nor Not = false
+same_op Nor (Table b) = false
+same_op Xor And = false
+same_op Xor Nand = false
+same_op Xor Or = false
+same_op Xor Nor = false
 same_op Xor Xor = true
+same_op Xor Xnor = false
+same_op Xor Buf = false
+same_op Xor Not = false
+same_op Xor (Table b) = false
+same_op Xnor And = false
+same_op Xnor Nand = false
+same_op Xnor Or = false
+same_op Xnor Nor = false
+same_op Xnor Xor = false
 same_op Xnor Xnor = true
+same_op Xnor Buf = false
+same_op Xnor Not = false
+same_op Xnor (Table b) = false
+same_op Buf And = false
+same_op Buf Nand = false
+same_op Buf Or = false
+same_op Buf Nor = false
+same_op Buf Xor = false
+same_op Buf Xnor = false
 same_op Buf Buf = true
+same_op Buf Not = false
+same_op Buf (Table b) = false
+same_op Not And = false
+same_op Not Nand = false
+same_op Not Or = false
+same_op Not Nor = false
+same_op Not Xor = false
+same_op Not Xnor = false
+same_op Not Buf = false
 same_op Not Not = true
+same_op Not (Table b) = false
+same_op (Table a) And = false
+same_op (Table a) Nand = false
+same_op (Table a) Or = false
+same_op (Table a) Nor = false
+same_op (Table a) Xor = false
+same_op (Table a) Xnor = false
+same_op (Table a) Buf = false
+same_op (Table a) Not = false
 same_op (Table a) (Table b) = a == b
-same_op a b = false
 
 abbrev pub same_subject : Subject → Subject → Bool
 same_subject (Net a) (Net b) = a.place == b.place
+same_subject (Net a) (Up b) = false
+same_subject (Net a) (Down b) = false
+same_subject (Net a) (Take b) = false
+same_subject (Net a) (Next b) = false
+same_subject (Net a) (TakeWrite b j) = false
+same_subject (Net a) (Old b j l) = false
+same_subject (Net a) (TakeRead b j) = false
+same_subject (Up a) (Net b) = false
 same_subject (Up a) (Up b) = a.place == b.place
+same_subject (Up a) (Down b) = false
+same_subject (Up a) (Take b) = false
+same_subject (Up a) (Next b) = false
+same_subject (Up a) (TakeWrite b j) = false
+same_subject (Up a) (Old b j l) = false
+same_subject (Up a) (TakeRead b j) = false
+same_subject (Down a) (Net b) = false
+same_subject (Down a) (Up b) = false
 same_subject (Down a) (Down b) = a.place == b.place
+same_subject (Down a) (Take b) = false
+same_subject (Down a) (Next b) = false
+same_subject (Down a) (TakeWrite b j) = false
+same_subject (Down a) (Old b j l) = false
+same_subject (Down a) (TakeRead b j) = false
+same_subject (Take a) (Net b) = false
+same_subject (Take a) (Up b) = false
+same_subject (Take a) (Down b) = false
 same_subject (Take a) (Take b) = a.place == b.place
+same_subject (Take a) (Next b) = false
+same_subject (Take a) (TakeWrite b j) = false
+same_subject (Take a) (Old b j l) = false
+same_subject (Take a) (TakeRead b j) = false
+same_subject (Next a) (Net b) = false
+same_subject (Next a) (Up b) = false
+same_subject (Next a) (Down b) = false
+same_subject (Next a) (Take b) = false
 same_subject (Next a) (Next b) = a.place == b.place
+same_subject (Next a) (TakeWrite b j) = false
+same_subject (Next a) (Old b j l) = false
+same_subject (Next a) (TakeRead b j) = false
+same_subject (TakeWrite a i) (Net b) = false
+same_subject (TakeWrite a i) (Up b) = false
+same_subject (TakeWrite a i) (Down b) = false
+same_subject (TakeWrite a i) (Take b) = false
+same_subject (TakeWrite a i) (Next b) = false
 same_subject (TakeWrite a i) (TakeWrite b j) = (a.place == b.place) && (i == j)
-same_subject a b = false
+same_subject (TakeWrite a i) (Old b j l) = false
+same_subject (TakeWrite a i) (TakeRead b j) = false
+same_subject (Old a i k) (Net b) = false
+same_subject (Old a i k) (Up b) = false
+same_subject (Old a i k) (Down b) = false
+same_subject (Old a i k) (Take b) = false
+same_subject (Old a i k) (Next b) = false
+same_subject (Old a i k) (TakeWrite b j) = false
+same_subject (Old a i k) (Old b j l) = (a.place == b.place) && (i == j) && (k == l)
+same_subject (Old a i k) (TakeRead b j) = false
+same_subject (TakeRead a i) (Net b) = false
+same_subject (TakeRead a i) (Up b) = false
+same_subject (TakeRead a i) (Down b) = false
+same_subject (TakeRead a i) (Take b) = false
+same_subject (TakeRead a i) (Next b) = false
+same_subject (TakeRead a i) (TakeWrite b j) = false
+same_subject (TakeRead a i) (Old b j l) = false
+same_subject (TakeRead a i) (TakeRead b j) = (a.place == b.place) && (i == j)
 
 -- whether the net of a chip has this subject
 abbrev pub has_subject : Results → ℕ → ChipNetId → Subject → Bool
@@ -172,6 +303,12 @@ abbrev pub write_take_origin : WritePort → Origin
 write_take_origin w =
     record { op = table_of 2 (write_take_function w); inputs = edge_of w.clock w.rise ∷ Net w.enable.net ∷ [] }
 
+-- only a read port with a clock has one
+abbrev pub read_take_origin : Option Edge → Option Origin
+read_take_origin None = None
+read_take_origin (Some clock) =
+    Some (record { op = table_of 1 read_take_function; inputs = edge_of clock.net clock.rise ∷ [] })
+
 abbrev pub is_design_net : Parts → NetId → Bool
 is_design_net p n = nat_lt n.place (net_count p)
 
@@ -183,6 +320,8 @@ origin_of p (Down n) = if is_design_net p n then Some (record { op = table_of 2 
 origin_of p (Take e) = option_map take_origin (flop_at p e.place)
 origin_of p (Next e) = option_map next_origin (flop_at p e.place)
 origin_of p (TakeWrite m k) = option_map write_take_origin (design_write p m.place k)
+origin_of p (Old m k b) = None
+origin_of p (TakeRead m k) = option_and_then (λ port. read_take_origin port.clock) (design_read p m.place k)
 
 abbrev pub has_origin : Results → ℕ → EmuGate → Option Origin → Bool
 has_origin r c gate None = false
@@ -197,28 +336,41 @@ abbrev pub is_net_subject : Parts → Option Subject → Bool
 is_net_subject p (Some (Net n)) = is_design_net p n
 is_net_subject p other = false
 
--- the flip-flop whose output a subject is, if it is one
-abbrev pub flop_of_driver : Parts → Driver → Option ElemId
-flop_of_driver p (driven.Elem e) = option_map (λ f. e) (flop_at p e.place)
-flop_of_driver p other = None
+-- what a register with an enable must have at its D and at its enable
+pub record Loading : Type 0 where
+  pub feed : Subject
+  pub enable : Subject
 
-abbrev pub flop_of : Parts → Option Subject → Option ElemId
-flop_of p (Some (Net n)) = flop_of_driver p (driver p n.place)
-flop_of p other = None
+abbrev pub flop_loading : ElemId → Loading
+flop_loading e = record { feed = Next e; enable = Take e }
 
--- the D and the enable of a register with an enable are the next and the take of its flip-flop
-abbrev pub flop_register_fits : Results → ℕ → ChipNetId → ChipNetId → Option ElemId → Bool
-flop_register_fits r c d enable None = false
-flop_register_fits r c d enable (Some f) = has_subject r c d (Next f) && has_subject r c enable (Take f)
+abbrev pub read_loading : MemId → ℕ → ℕ → ReadPort → Option Loading
+read_loading m k b port = option_map (λ clock. record { feed = Old m k b; enable = TakeRead m k }) port.clock
+
+-- A flip-flop's output is loaded with what the flip-flop takes, and a bit of a read port with a clock with
+-- what the port takes. Nothing else is loaded under an enable.
+abbrev pub driver_loading : Parts → Driver → Option Loading
+driver_loading p (driven.Constant b) = None
+driver_loading p driven.Input = None
+driver_loading p (driven.Elem e) = option_map (λ f. flop_loading e) (flop_at p e.place)
+driver_loading p (driven.Read m k b) = option_and_then (read_loading m k b) (design_read p m.place k)
+
+abbrev pub loading_of : Parts → Option Subject → Option Loading
+loading_of p (Some (Net n)) = driver_loading p (driver p n.place)
+loading_of p other = None
+
+abbrev pub loading_fits : Results → ℕ → ChipNetId → ChipNetId → Option Loading → Bool
+loading_fits r c d enable None = false
+loading_fits r c d enable (Some loading) = has_subject r c d loading.feed && has_subject r c enable loading.enable
 
 -- The Q of a register without D stands for a net of the design. D and Q of one with D alone stand for
--- one such net. One with an enable stands for a flip-flop's output.
+-- one such net. One with an enable stands for a flip-flop's output or a bit of a read port with a clock.
 abbrev pub register_pins_fit : Parts → Results → ℕ → ChipNetId → Option ChipNetId → Option ChipNetId → Bool
 register_pins_fit p r c q None None = is_net_subject p (subject r c q.place)
 register_pins_fit p r c q None (Some enable) = false
 register_pins_fit p r c q (Some d) None =
     is_net_subject p (subject r c q.place) && option_map_or (has_subject r c d) (subject r c q.place) false
-register_pins_fit p r c q (Some d) (Some enable) = flop_register_fits r c d enable (flop_of p (subject r c q.place))
+register_pins_fit p r c q (Some d) (Some enable) = loading_fits r c d enable (loading_of p (subject r c q.place))
 
 abbrev pub register_fits : Parts → Results → ℕ → EmuRegister → Bool
 register_fits p r c register = register_pins_fit p r c register.q register.d register.enable
@@ -230,18 +382,30 @@ write_fits r c m k design port =
     && have_subjects r c port.address (map Net design.address)
     && have_subjects r c port.feed (map Net design.feed)
 
-abbrev pub read_fits : Results → ℕ → ReadPort → EmuRead → Bool
-read_fits r c design port =
-    have_subjects r c port.address (map Net design.address) && have_subjects r c port.bits (map Net design.bits)
+-- what the nets of a read port stand for: the design's nets, and where the port has a clock the bits of the
+-- word that it takes
+abbrev pub read_subjects : MemId → ℕ → ReadPort → List Subject
+read_subjects m k design =
+    option_map_or (λ clock. map (λ (b, n). Old m k b) (enumerate_from 0 design.bits)) design.clock (map Net design.bits)
+
+abbrev pub keeps_read : MemMap → ℕ → Bool
+keeps_read entry k = unwrap_or (slice_get entry.kept k) false
+
+-- each read port of a chip's memory stands for the design's port of the same number; one with a clock is free
+abbrev pub read_fits : Results → ℕ → MemMap → ℕ → ReadPort → EmuRead → Bool
+read_fits r c entry k design port =
+    have_subjects r c port.address (map Net design.address)
+    && have_subjects r c port.bits (read_subjects entry.of k design)
+    && not (is_some design.clock && keeps_read entry k)
 
 -- a memory of a chip has the dimensions, the ports and the subjects of the design's memory
-abbrev pub memory_ports_fit : Results → ℕ → MemId → Memory → EmuMemory → Bool
-memory_ports_fit r c m design memory =
+abbrev pub memory_ports_fit : Results → ℕ → MemMap → Memory → EmuMemory → Bool
+memory_ports_fit r c entry design memory =
     (memory.address_bits == design.address_bits) && (memory.width == design.width)
     && (length memory.writes == length design.writes) && (length memory.reads == length design.reads)
-    && list_all (λ (k, (w, port)). write_fits r c m k w port) (enumerate_from 0 (zip design.writes memory.writes))
-    && list_all (λ (w, port). read_fits r c w port) (zip design.reads memory.reads)
+    && list_all (λ (k, (w, port)). write_fits r c entry.of k w port) (enumerate_from 0 (zip design.writes memory.writes))
+    && list_all (λ (k, (w, port)). read_fits r c entry k w port) (enumerate_from 0 (zip design.reads memory.reads))
 
 abbrev pub memory_fits : Parts → Results → ℕ → MemMap → EmuMemory → Bool
 memory_fits p r c entry memory =
-    option_map_or (λ design. memory_ports_fit r c entry.of design memory) (slice_get p.memories entry.of.place) false
+    option_map_or (λ design. memory_ports_fit r c entry design memory) (slice_get p.memories entry.of.place) false

@@ -2,7 +2,6 @@
 -- actions alone, and a map of nets of the design.
 -- The rule is told in docs/FORMATS.md, "The netlist", "The schedule" and "The map".
 use Rattle.std.specs.Prelude.{◌≡◌, ◌<◌, ℕ, Some, None, [], ◌∷◌, slice_get, Contains}
-use Rattle.id_arena.specs.declared.keys.NetId.{NetId}
 use Rattle.id_arena.specs.declared.keys.ChipNetId.{ChipNetId}
 use Rattle.design_core.specs.Plain.{IsPlainOp}
 use Rattle.emu_machine.specs.declared.netlist.Chip.{Chip}

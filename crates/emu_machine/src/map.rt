@@ -18,6 +18,11 @@ pub enum Subject {
     Next(ElemId),
     /// That a write port of a memory stores in the event.
     TakeWrite(MemId, u32),
+    /// A bit of the word that a read port of a memory takes if it takes one: the memory, the port, the
+    /// bit.
+    Old(MemId, u32, u32),
+    /// That a read port of a memory takes a word in the event.
+    TakeRead(MemId, u32),
 }
 
 /// The map of one memory of a chip: the design's memory, and for each read port whether it is kept.

@@ -2,7 +2,7 @@
 
 use id_arena::{ChipId, ElemId, MemId, NetId, RegId, WireId};
 
-/// What an action uses and no other action of its slot may use.
+/// What an action uses in a slot, and no other action may use in that slot.
 #[derive(Clone, Copy, Debug, Drop, PartialEq, Eq)]
 pub enum Thing {
     Wire(WireId),

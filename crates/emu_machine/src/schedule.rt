@@ -3,8 +3,9 @@
 use emu_io::{List, Text};
 use id_arena::{ChipId, ChipNetId, MemId, NetId, RegId, WireId};
 
-/// What the machine does in a slot. Each action reads the values at the slot's start, and its target
-/// takes its value at the slot's end.
+/// What the machine does. Each action reads the values at the start of its slot. Its target takes its value
+/// at the end of that slot; only that of a `send` over a wire of a latency of `n` slots takes it at the end
+/// of the `n`-th, its own counted as the first.
 #[derive(Clone, Copy, Debug, Drop, PartialEq, Eq)]
 pub enum Action {
     /// The register takes the present outside value of an input net of the design.
@@ -13,24 +14,25 @@ pub enum Action {
         register: RegId,
         net: NetId,
     },
-    /// The register takes its D; if it has an enable, only where the enable is 1.
+    /// The register takes what stands at its D; one with an enable does so only while that is 1.
     Load {
         chip: ChipId,
         register: RegId,
     },
-    /// The register on the wire's far chip takes the value of a net on the near chip.
+    /// The register on the wire's far chip takes the value of a net on the near chip, at the end of the
+    /// last slot of the wire's latency.
     Send {
         wire: WireId,
         net: ChipNetId,
         register: RegId,
     },
-    /// Where the port's enable is 1, the word at its address becomes its data.
+    /// The port stores its data at its address, if its enable is 1.
     Write {
         chip: ChipId,
         mem: MemId,
         port: u32,
     },
-    /// The port's read nets take the word at its address.
+    /// The nets of the port show the word that stands at its address.
     Read {
         chip: ChipId,
         mem: MemId,

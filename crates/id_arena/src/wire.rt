@@ -1,9 +1,14 @@
 //! A wire between two chips.
 
-/// The numbers of the chips that a wire goes from and to. Where a text tells them they may be no
-/// chips; on a board they are two different ones.
+use crate::ChipId;
+
+/// The chips that a wire goes from and to, and for how many slots a value is on its way. Where a text
+/// tells them, the chips may be none and the latency any number; on a board they are two different
+/// chips and 1 to 8 slots.
 #[derive(Clone, Copy, Debug, Drop, PartialEq, Eq)]
 pub struct Wire {
-    pub from: u32,
-    pub to: u32,
+    pub from: ChipId,
+    pub to: ChipId,
+    /// The slots from the start of the send's own to the end of the one in which the value arrives.
+    pub latency: u32,
 }
