@@ -1,0 +1,4 @@
+pub mod Counting
+pub mod Tests
+pub mod Lists
+pub mod Places
