@@ -1,10 +1,10 @@
--- The valuation after an event solves the equations that start from the valuation before it.
-use Rattle.std.proofs.Common.{◌≡◌, ℕ, zero, suc, ◌+◌, ◌*◌, ◌^◌, ◌<◌, ◌≤◌, pow-suc, arith, Bool, true, false, not, List, [], ◌∷◌, map, length, refl, subst, sym, ap, ◌∙◌, if◌then◌else◌}
+-- Offered to the crates above: the valuation after an event solves the equations that start from the valuation
+-- before it.
+use Rattle.std.proofs.Common.{◌≡◌, ℕ, suc, ◌^◌, ◌<◌, pow-suc, arith, Bool, true, false, not, List, [], ◌∷◌, map, length, refl, subst, sym, ap, ◌∙◌, if◌then◌else◌}
 use Rattle.std.proofs.lemmas.List.{length-map}
 use Rattle.std.specs.Prelude.{◌==◌, ◌&&◌, Option, Some, None, slice_get, unwrap_or}
-use Rattle.std.specs.List.{list_all}
-use Rattle.std.proofs.lemmas.Option.{none-some, same_Some}
 use Rattle.id_arena.specs.declared.keys.NetId.{NetId}
+use Rattle.design_core.specs.declared.element.Edge.{Edge}
 use Rattle.design_core.specs.declared.element.Element.{Element}
 use Rattle.design_core.specs.declared.element.Element.TheVariants as element
 use Rattle.design_core.specs.declared.element.Memory.{Memory}
@@ -12,17 +12,18 @@ use Rattle.design_core.specs.declared.element.ReadPort.{ReadPort}
 use Rattle.design_core.specs.declared.element.WritePort.{WritePort}
 use Rattle.design_core.specs.declared.parts.Parts.{Parts}
 use Rattle.design_core.specs.declared.values.PortBit.{PortBit}
-use Rattle.design_core.specs.Operation.{number, bit_of, bit}
-use Rattle.design_core.specs.Design.{IsDesign, net_count, driver, memory_fits}
-use Rattle.design_core.specs.Valuation.{Valuation, values, shown_number, has_edge, acts, IsAddress}
-use Rattle.design_core.specs.Settled.{ReadsHold}
+use Rattle.design_core.specs.Operation.{number, bit_of}
+use Rattle.design_core.specs.Design.{IsDesign, ReadBit, memory_fits}
+use Rattle.design_core.specs.Valuation.{Valuation, values, shown_number, addressed_bit, has_edge, acts, IsAddress}
+use Rattle.design_core.specs.Settled.{IsReadBit}
 use Rattle.design_core.specs.Event.{given, ElementFollows, stores, written, IsAfter}
-use Rattle.history_law.proofs.Lists.{no}
-use Rattle.history_law.proofs.Naming.{number_same}
+use Rattle.facts.proofs.Places.{all_at}
+use Rattle.facts.proofs.Tests.{no, left, right, number_same}
+use Rattle.history_law.proofs.Naming.{read_bit}
 use Rattle.design_core.specs.declared.node.NodeId.TheVariants.{Net}
 use Rattle.design_core.specs.Dependency.{needs}
 use Rattle.history_law.proofs.Ranges.{Each}
-use Rattle.history_law.proofs.Equations.{Start, Equations, ElementShows, IsLocal, Same}
+use Rattle.history_law.proofs.Equations.{Start, Equations, ElementShows, IsLocal, Same, read_shows}
 
 abbrev pub state_after : Valuation → Valuation → Element → Bool
 state_after v u (element.Gate op inputs output) = false
@@ -34,9 +35,18 @@ abbrev pub word_at : Valuation → Valuation → ℕ → ℕ → Option Memory �
 word_at v u a old None = old
 word_at v u a old (Some memory) = written v u memory.writes a old
 
+-- a bit of a clocked read port takes its bit of the word from before, or stays
+abbrev pub read_after : Valuation → Valuation → ReadBit → ReadPort → Edge → Bool
+read_after v u x port edge =
+    if has_edge v u edge.net edge.rise then addressed_bit v x.mem port x.bit else v.net x.net
+
 abbrev pub after_start : Parts → Valuation → Start
 after_start p v =
-    record { state = λ u k e. state_after v u e; word = λ u m a. word_at v u a (v.word m a) (slice_get p.memories m) }
+    record {
+      state = λ u k e. state_after v u e;
+      word = λ u m a. word_at v u a (v.word m a) (slice_get p.memories m);
+      read = λ u x port edge. read_after v u x port edge;
+    }
 
 abbrev pub after_inputs : Valuation → List PortBit → ℕ → Bool
 after_inputs v e n = unwrap_or (given e n) (v.net n)
@@ -48,7 +58,7 @@ module _ (v u w : Valuation) where
   edge_same clock rise e =
       ap (λ b. if rise then not (v.net clock.place) && b else v.net clock.place && not b) e
 
-  pub stores_same : (port : WritePort) → u.net port.clock.place ≡ w.net port.clock.place → stores v u port ≡ stores v w port
+  stores_same : (port : WritePort) → u.net port.clock.place ≡ w.net port.clock.place → stores v u port ≡ stores v w port
   stores_same port e = ap (λ b. b && acts v port.enable) (edge_same port.clock port.rise e)
 
   pub written_same : (ports : List WritePort) (a old : ℕ) → ((j : ℕ) (port : WritePort) → slice_get ports j ≡ Some port → u.net port.clock.place ≡ w.net port.clock.place) → written v u ports a old ≡ written v w ports a old
@@ -89,36 +99,28 @@ after_local p v =
       state = λ u w k e h. state_same p v u w e h;
       word = λ u w m a memory at h.
           ap (word_at v u a (v.word m a)) at ∙ written_same v u w memory.writes a (v.word m a) h ∙ ap (word_at v w a (v.word m a)) (sym at);
+      read = λ u w x port edge h.
+          ap (λ b. if b then addressed_bit v x.mem port x.bit else v.net x.net) (edge_same v u w edge.net edge.rise h);
     }
 
 -- ## Addresses
-
-and_left : (a b : Bool) → (a && b) ≡ true → a ≡ true
-and_left true b h = refl
-and_left false b h = no h
-
-and_right : (a b : Bool) → (a && b) ≡ true → b ≡ true
-and_right true b h = h
-and_right false b h = no h
-
-all_at : {X : Type 0} (f : X → Bool) (xs : List X) (k : ℕ) (x : X) → list_all f xs ≡ true → slice_get xs k ≡ Some x → f x ≡ true
-all_at f [] k x h at = absurd (none-some x at)
-all_at f (y ∷ ys) zero x h at = ap f (sym (same_Some y x at)) ∙ and_left (f y) (list_all f ys) h
-all_at f (y ∷ ys) (suc k) x h at = all_at f ys k x (and_right (f y) (list_all f ys) h) at
 
 number_bound : (bs : List Bool) → number bs < 2 ^ length bs
 number_bound [] = omega arith
 number_bound (true ∷ bs) = omega (arith, pow-suc 2 (length bs), number_bound bs)
 number_bound (false ∷ bs) = omega (arith, pow-suc 2 (length bs), number_bound bs)
 
+-- so many nets show a number below 2 to as much
+pub shown_bound : (u : Valuation) (nets : List NetId) (k : ℕ) → length nets ≡ k → shown_number u nets < 2 ^ k
+shown_bound u nets k wide =
+    let same : length (values u nets) ≡ k = length-map nets (λ (n : NetId). u.net n.place) ∙ wide in
+    subst (λ (k : ℕ). shown_number u nets < 2 ^ k) same (number_bound (values u nets))
+
 pub address_bound : (p : Parts) (u : Valuation) (m r : ℕ) (memory : Memory) (port : ReadPort) → IsDesign p → slice_get p.memories m ≡ Some memory → slice_get memory.reads r ≡ Some port → shown_number u port.address < 2 ^ memory.address_bits
 address_bound p u m r memory port d at in_port =
     let fits : memory_fits memory ≡ true = all_at memory_fits p.memories m memory d.memories_fit at in
-    let ports = and_right _ _ fits in
-    let both = all_at _ memory.reads r port ports in_port in
-    let wide : length port.address ≡ memory.address_bits = number_same _ _ (and_left _ _ both) in
-    let same : length (values u port.address) ≡ memory.address_bits = length-map port.address (λ (n : NetId). u.net n.place) ∙ wide in
-    subst (λ (k : ℕ). shown_number u port.address < 2 ^ k) same (number_bound (values u port.address))
+    let both = all_at _ memory.reads r port (right _ _ fits) in_port in
+    shown_bound u port.address memory.address_bits (number_same _ _ (left _ _ both))
 
 -- ## The equations after an event
 
@@ -141,12 +143,16 @@ module _ (p : Parts) (v : Valuation) (e : List PortBit) (w : Valuation) (d : IsD
         constants = h.constants;
         inputs = h.inputs;
         elements = λ k x at. follows_shows v w x (h.elements k x at);
-        reads = λ m r b memory port n at in_port in_bit.
-            let a : ℕ = shown_number w port.address in
-            h.reads m r b memory port n at in_port in_bit
-            ∙ ap (λ x. bit_of x b)
-            (h.words m a memory at (memory, at, address_bound p w m r memory port d at in_port) ∙ ap (word_at v w a (v.word m a)) (sym at));
+        reads = λ m r b port n is. bit_follows m r b port n is port.clock refl;
       }
+    where
+      bit_follows : (m r b : ℕ) (port : ReadPort) (n : NetId) → IsReadBit p m r b port n → (c : Option Edge) → port.clock ≡ c → w.net n.place ≡ read_shows (after_start p v) w (read_bit n.place m r b) port c
+      bit_follows m r b port n is None free =
+          let a : ℕ = shown_number w port.address in
+          let there : IsAddress p m a = (is.memory, is.is_memory, address_bound p w m r is.memory port d is.is_memory is.is_port) in
+          h.reads m r b port n is free
+          ∙ ap (λ x. bit_of x b) (h.words m a is.memory is.is_memory there ∙ ap (word_at v w a (v.word m a)) (sym is.is_memory))
+      bit_follows m r b port n is (Some edge) clocked = h.clocked m r b port edge n is clocked
 
   pub equations_after : Equations p (after_start p v) (after_inputs v e) w
       → ((m a : ℕ) (memory : Memory) → slice_get p.memories m ≡ Some memory → w.word m a ≡ word_at v w a (v.word m a) (slice_get p.memories m))
@@ -157,6 +163,10 @@ module _ (p : Parts) (v : Valuation) (e : List PortBit) (w : Valuation) (d : IsD
         inputs = h.inputs;
         elements = λ k x at. shows_follow v w x (h.elements k x at);
         words = λ m a memory at address. words m a memory at ∙ ap (word_at v w a (v.word m a)) at;
-        reads = λ m r b memory port n at in_port in_bit.
-            h.reads m r b memory port n at in_port in_bit ∙ ap (λ x. bit_of x b) (sym (words m (shown_number w port.address) memory at));
+        reads = λ m r b port n is free.
+            h.reads m r b port n is
+            ∙ ap (read_shows (after_start p v) w (read_bit n.place m r b) port) free
+            ∙ ap (λ x. bit_of x b) (sym (words m (shown_number w port.address) is.memory is.is_memory));
+        clocked = λ m r b port edge n is clocked.
+            h.reads m r b port n is ∙ ap (read_shows (after_start p v) w (read_bit n.place m r b) port) clocked;
       }

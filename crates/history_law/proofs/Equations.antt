@@ -1,11 +1,11 @@
--- The values that a design gives to its nets as one equation for each net, for the opened valuation and
--- for the valuation after an event alike.
-use Rattle.std.proofs.Common.{◌≡◌, ℕ, zero, suc, ◌+◌, ◌<◌, ◌≤◌, arith, Bool, true, false, not, List, [], ◌∷◌, ◌++◌, map, refl, subst, sym, ap, ◌∙◌, if◌then◌else◌}
-use Rattle.std.specs.Prelude.{◌==◌, ◌&&◌, nat_lt, Option, Some, None, Contains, slice_get, unwrap_or}
+-- Offered to the crates above: the values that a design gives to its nets as one equation for each net, for
+-- the opened valuation and for the valuation after an event alike.
+use Rattle.std.proofs.Common.{◌≡◌, ℕ, ◌<◌, arith, Bool, true, false, not, List, [], ◌∷◌, map, refl, subst, sym, ap, ◌∙◌, if◌then◌else◌}
+use Rattle.std.specs.Prelude.{Option, Some, None, Contains, slice_get, unwrap_or}
 use Rattle.std.specs.Option.{option_or}
 use Rattle.id_arena.specs.declared.keys.NetId.{NetId}
-use Rattle.id_arena.specs.declared.keys.ElemId.{ElemId}
 use Rattle.id_arena.specs.declared.keys.MemId.{MemId}
+use Rattle.design_core.specs.declared.element.Edge.{Edge}
 use Rattle.design_core.specs.declared.element.Level.{Level}
 use Rattle.design_core.specs.declared.element.Latch.{Latch}
 use Rattle.design_core.specs.declared.element.Element.{Element}
@@ -19,18 +19,20 @@ use Rattle.design_core.specs.declared.node.NodeId.{NodeId}
 use Rattle.design_core.specs.declared.node.NodeId.TheVariants.{Net, Write}
 use Rattle.design_core.specs.declared.parts.Parts.{Parts}
 use Rattle.design_core.specs.Operation.{op_value, number, bit_of}
-use Rattle.design_core.specs.Design.{IsDesign, net_count, driver, drives, reset_nets}
-use Rattle.design_core.specs.Valuation.{Valuation, values, shown_number, acts, reset_acts, forced, passed}
-use Rattle.design_core.specs.Settled.{ConstantsHold}
-use Rattle.design_core.specs.Dependency.{dependencies, driver_needs, needs, needs_at, read_needs, read_needs_at, write_nodes, write_needs, write_needs_at, HasRank, ranked}
-use Rattle.history_law.proofs.Lists.{no}
-use Rattle.history_law.proofs.Naming.{same_number, number_same, element_is_driver, driver_is_element, read_bit_is_driver, driver_is_read_bit}
+use Rattle.design_core.specs.Design.{IsDesign, ReadBit, net_count, driver, drives, reset_nets}
+use Rattle.design_core.specs.Valuation.{Valuation, values, shown_number, acts, forced, passed}
+use Rattle.design_core.specs.Settled.{ConstantsHold, IsReadBit}
+use Rattle.design_core.specs.Dependency.{dependencies, driver_needs, needs, needs_at, port_needs, read_needs, read_needs_at, write_nodes, write_needs, write_needs_at, HasRank, ranked}
+use Rattle.facts.proofs.Tests.{no, same_number, number_same}
+use Rattle.history_law.proofs.Naming.{read_bit, element_is_driver, driver_is_element, read_bit_is_driver, driver_is_read_bit}
 use Rattle.history_law.proofs.Ranges.{Each, each_of, each_left, each_right, each_write}
 
--- what flip-flops and latches show where nothing forces them, and the words of memories
+-- what flip-flops and latches show where nothing forces them, the words of memories, and what the bits of
+-- read ports with a clock show
 pub record Start : Type 0 where
   pub state : Valuation → ℕ → Element → Bool
   pub word : Valuation → ℕ → ℕ → ℕ
+  pub read : Valuation → ReadBit → ReadPort → Edge → Bool
 
 abbrev pub element_shows : Bool → Valuation → Element → Bool
 element_shows state u (element.Gate op inputs output) = op_value op (values u inputs)
@@ -42,20 +44,24 @@ abbrev pub element_at : Start → Valuation → ℕ → Option Element → Bool
 element_at s u k None = false
 element_at s u k (Some e) = element_shows (s.state u k e) u e
 
-abbrev pub port_at : (ℕ → ℕ) → Valuation → ℕ → Option ReadPort → Bool
-port_at word u b None = false
-port_at word u b (Some port) = bit_of (word (shown_number u port.address)) b
+abbrev pub read_shows : Start → Valuation → ReadBit → ReadPort → Option Edge → Bool
+read_shows s u x port None = bit_of (s.word u x.mem (shown_number u port.address)) x.bit
+read_shows s u x port (Some edge) = s.read u x port edge
 
-abbrev pub memory_at : (ℕ → ℕ) → Valuation → ℕ → ℕ → Option Memory → Bool
-memory_at word u r b None = false
-memory_at word u r b (Some memory) = port_at word u b (slice_get memory.reads r)
+abbrev pub port_at : Start → Valuation → ReadBit → Option ReadPort → Bool
+port_at s u x None = false
+port_at s u x (Some port) = read_shows s u x port port.clock
+
+abbrev pub memory_at : Start → Valuation → ReadBit → Option Memory → Bool
+memory_at s u x None = false
+memory_at s u x (Some memory) = port_at s u x (slice_get memory.reads x.port)
 
 -- what a driver gives to its net
 abbrev pub shows : Parts → Start → (ℕ → Bool) → Valuation → ℕ → Driver → Bool
 shows p s i u n (Constant b) = b
 shows p s i u n Input = i n
 shows p s i u n (Elem k) = element_at s u k.place (slice_get p.elements k.place)
-shows p s i u n (Read m r b) = memory_at (s.word u m.place) u r b (slice_get p.memories m.place)
+shows p s i u n (Read m r b) = memory_at s u (read_bit n m.place r b) (slice_get p.memories m.place)
 
 -- each net has what its driver gives
 pub record IsFixed (p : Parts) (s : Start) (i : ℕ → Bool) (u : Valuation) : Type 0 where
@@ -70,12 +76,14 @@ Same p u w (Write m k) =
     → slice_get memory.writes k ≡ Some port
     → u.net port.clock.place ≡ w.net port.clock.place
 
--- states and words look at no more than what the nets depend on
+-- states, words and bits of clocked ports look at no more than what the nets depend on
 pub record IsLocal (p : Parts) (s : Start) : Type 0 where
   pub state : (u w : Valuation) (k : ℕ) (e : Element) → Each (Same p u w) (map Net (needs e)) → s.state u k e ≡ s.state w k e
   pub word : (u w : Valuation) (m a : ℕ) (memory : Memory) → slice_get p.memories m ≡ Some memory
       → ((j : ℕ) (port : WritePort) → slice_get memory.writes j ≡ Some port → u.net port.clock.place ≡ w.net port.clock.place)
       → s.word u m a ≡ s.word w m a
+  pub read : (u w : Valuation) (x : ReadBit) (port : ReadPort) (edge : Edge) → u.net edge.net.place ≡ w.net edge.net.place
+      → s.read u x port edge ≡ s.read w x port edge
 
 -- ## The same dependencies give the same value
 
@@ -87,7 +95,7 @@ module _ (p : Parts) (u w : Valuation) where
   values_same [] h = refl
   values_same (n ∷ nets) h = ap (λ b. b ∷ values u nets) h.0 ∙ ap (λ bs. w.net n.place ∷ bs) (values_same nets h.1)
 
-  pub acts_same : (level : Level) → u.net level.net.place ≡ w.net level.net.place → acts u level ≡ acts w level
+  acts_same : (level : Level) → u.net level.net.place ≡ w.net level.net.place → acts u level ≡ acts w level
   acts_same level e = ap (λ b. if level.high then b else not b) e
 
   pub forced_same : (clear preset : Option Level) → Each (Same p u w) (map Net (reset_nets clear preset)) → forced clear preset u ≡ forced clear preset w
@@ -118,9 +126,9 @@ module _ (p : Parts) (u w : Valuation) where
     at_same k None h = refl
     at_same k (Some e) h = element_same (s.state u k e) (s.state w k e) (local.state u w k e h) e h
 
-    port_same : (m : MemId) (memory : Memory) → slice_get p.memories m.place ≡ Some memory → (b : ℕ) (o : Option ReadPort) → Each (Same p u w) (read_needs m memory o) → port_at (s.word u m.place) u b o ≡ port_at (s.word w m.place) w b o
-    port_same m memory at b None h = refl
-    port_same m memory at b (Some port) h =
+    bit_same : (m : MemId) (memory : Memory) → slice_get p.memories m.place ≡ Some memory → (n r b : ℕ) (port : ReadPort) (c : Option Edge) → Each (Same p u w) (port_needs m memory port.address c) → read_shows s u (read_bit n m.place r b) port c ≡ read_shows s w (read_bit n m.place r b) port c
+    bit_same m memory at n r b port (Some edge) h = local.read u w (read_bit n m.place r b) port edge h.0
+    bit_same m memory at n r b port None h =
         let address : values u port.address ≡ values w port.address =
         values_same port.address (each_left (Same p u w) (map Net port.address) (write_nodes m memory) h) in
         let nodes : Each (Same p u w) (write_nodes m memory) =
@@ -130,15 +138,19 @@ module _ (p : Parts) (u w : Valuation) where
         (local.word u w m.place (shown_number w port.address) memory at
         (λ j q in_port. each_write (Same p u w) m 0 memory.writes j j q nodes in_port (omega arith) memory q at in_port))
 
-    memory_same : (m : MemId) (r b : ℕ) (o : Option Memory) → slice_get p.memories m.place ≡ o → Each (Same p u w) (read_needs_at m o r) → memory_at (s.word u m.place) u r b o ≡ memory_at (s.word w m.place) w r b o
-    memory_same m r b None at h = refl
-    memory_same m r b (Some memory) at h = port_same m memory at b (slice_get memory.reads r) h
+    port_same : (m : MemId) (memory : Memory) → slice_get p.memories m.place ≡ Some memory → (n r b : ℕ) (o : Option ReadPort) → Each (Same p u w) (read_needs m memory o) → port_at s u (read_bit n m.place r b) o ≡ port_at s w (read_bit n m.place r b) o
+    port_same m memory at n r b None h = refl
+    port_same m memory at n r b (Some port) h = bit_same m memory at n r b port port.clock h
+
+    memory_same : (m : MemId) (n r b : ℕ) (o : Option Memory) → slice_get p.memories m.place ≡ o → Each (Same p u w) (read_needs_at m o r) → memory_at s u (read_bit n m.place r b) o ≡ memory_at s w (read_bit n m.place r b) o
+    memory_same m n r b None at h = refl
+    memory_same m n r b (Some memory) at h = port_same m memory at n r b (slice_get memory.reads r) h
 
     pub shows_same : (i : ℕ → Bool) (n : ℕ) (d : Driver) → Each (Same p u w) (driver_needs p d) → shows p s i u n d ≡ shows p s i w n d
     shows_same i n (Constant b) h = refl
     shows_same i n Input h = refl
     shows_same i n (Elem k) h = at_same k.place (slice_get p.elements k.place) h
-    shows_same i n (Read m r b) h = memory_same m r b (slice_get p.memories m.place) refl h
+    shows_same i n (Read m r b) h = memory_same m n r b (slice_get p.memories m.place) refl h
 
   pub clock_same : (m : MemId) (k : ℕ) → Each (Same p u w) (write_needs_at m k (slice_get p.memories m.place)) → Same p u w (Write m k)
   clock_same m k h memory port at in_port =
@@ -160,11 +172,8 @@ pub record Equations (p : Parts) (s : Start) (i : ℕ → Bool) (u : Valuation) 
   pub constants : ConstantsHold p u
   pub inputs : (n : ℕ) → n < net_count p → driver p n ≡ Input → u.net n ≡ i n
   pub elements : (k : ℕ) (e : Element) → slice_get p.elements k ≡ Some e → ElementShows (s.state u k e) u e
-  pub reads : (m r b : ℕ) (memory : Memory) (port : ReadPort) (n : NetId)
-      → slice_get p.memories m ≡ Some memory
-      → slice_get memory.reads r ≡ Some port
-      → slice_get port.bits b ≡ Some n
-      → u.net n.place ≡ bit_of (s.word u m (shown_number u port.address)) b
+  pub reads : (m r b : ℕ) (port : ReadPort) (n : NetId) → IsReadBit p m r b port n
+      → u.net n.place ≡ read_shows s u (read_bit n.place m r b) port port.clock
 
 module _ (p : Parts) (s : Start) (i : ℕ → Bool) (u : Valuation) where
   output_shows : (state : Bool) (n : ℕ) (e : Element) → drives n e ≡ true → ElementShows state u e → u.net n ≡ element_shows state u e
@@ -173,9 +182,9 @@ module _ (p : Parts) (s : Start) (i : ℕ → Bool) (u : Valuation) where
   output_shows state n (element.Latch l) out h = ap u.net (sym (number_same l.q.place n out)) ∙ h
   output_shows state n (element.Memory m) out h = no out
 
-  memory_shows : (m : MemId) (r b : ℕ) (memory : Memory) (port : ReadPort) → slice_get p.memories m.place ≡ Some memory → slice_get memory.reads r ≡ Some port → shows p s i u 0 (Read m r b) ≡ bit_of (s.word u m.place (shown_number u port.address)) b
-  memory_shows m r b memory port at in_port =
-      ap (memory_at (s.word u m.place) u r b) at ∙ ap (port_at (s.word u m.place) u b) in_port
+  memory_shows : (n m r b : ℕ) (memory : Memory) (port : ReadPort) → slice_get p.memories m ≡ Some memory → slice_get memory.reads r ≡ Some port → shows p s i u n (Read (record { place = m }) r b) ≡ read_shows s u (read_bit n m r b) port port.clock
+  memory_shows n m r b memory port at in_port =
+      ap (memory_at s u (read_bit n m r b)) at ∙ ap (port_at s u (read_bit n m r b)) in_port
 
   pub fixed_from : Equations p s i u → IsFixed p s i u
   fixed_from h = record { fixed = λ n small. go n small (driver p n) refl }
@@ -188,7 +197,11 @@ module _ (p : Parts) (s : Start) (i : ℕ → Bool) (u : Valuation) where
           output_shows (s.state u k.place x.0) n x.0 x.2 (h.elements k.place x.0 x.1) ∙ ap (element_at s u k.place) (sym x.1)
       go n small (Read m r b) e =
           let x = driver_is_read_bit p n m r b e in
-          ap u.net (sym x.6) ∙ h.reads m.place r b x.0 x.1 x.2 x.3 x.4 x.5 ∙ sym (memory_shows m r b x.0 x.1 x.3 x.4)
+          let is : IsReadBit p m.place r b x.1 x.2 = record { memory = x.0; is_memory = x.3; is_port = x.4; is_bit = x.5 } in
+          ap u.net (sym x.6)
+          ∙ h.reads m.place r b x.1 x.2 is
+          ∙ ap (λ (k : ℕ). read_shows s u (read_bit k m.place r b) x.1 x.1.clock) x.6
+          ∙ sym (memory_shows n m.place r b x.0 x.1 x.3 x.4)
 
   module _ (d : IsDesign p) (f : IsFixed p s i u) where
     named_shows : (k n : ℕ) (e : Element) → slice_get p.elements k ≡ Some e → drives n e ≡ true → u.net n ≡ element_shows (s.state u k e) u e
@@ -203,10 +216,12 @@ module _ (p : Parts) (s : Start) (i : ℕ → Bool) (u : Valuation) where
     element_equation k (element.Latch l) at = named_shows k l.q.place (element.Latch l) at (same_number l.q.place l.q.place refl)
     element_equation k (element.Memory m) at = tt
 
-    read_equation : (m r b : ℕ) (memory : Memory) (port : ReadPort) (n : NetId) → slice_get p.memories m ≡ Some memory → slice_get memory.reads r ≡ Some port → slice_get port.bits b ≡ Some n → u.net n.place ≡ bit_of (s.word u m (shown_number u port.address)) b
-    read_equation m r b memory port n at in_port in_bit =
-        let h = read_bit_is_driver p m r b memory port n d at in_port in_bit in
-        f.fixed n.place h.0 ∙ ap (shows p s i u n.place) h.1 ∙ memory_shows (record { place = m }) r b memory port at in_port
+    read_equation : (m r b : ℕ) (port : ReadPort) (n : NetId) → IsReadBit p m r b port n → u.net n.place ≡ read_shows s u (read_bit n.place m r b) port port.clock
+    read_equation m r b port n is =
+        let h = read_bit_is_driver p m r b is.memory port n d is.is_memory is.is_port is.is_bit in
+        f.fixed n.place h.0
+        ∙ ap (shows p s i u n.place) h.1
+        ∙ memory_shows n.place m r b is.memory port is.is_memory is.is_port
 
     pub equations_from : Equations p s i u
     equations_from =

@@ -1,4 +1,4 @@
--- An event leaves what is settled settled.
+-- Offered to the crates above: an event leaves what is settled settled.
 use Rattle.std.proofs.Common.{◌≡◌, Bool}
 use Rattle.std.specs.Prelude.{Option, Some, None, IfSome, unwrap_or}
 use Rattle.design_core.specs.declared.element.Element.{Element}

@@ -1,22 +1,25 @@
--- What drives a net is what names it as its output, since nothing else does.
-use Rattle.std.proofs.Common.{◌≡◌, ℕ, zero, suc, ◌+◌, ◌<◌, ◌≤◌, arith, Bool, true, false, List, [], ◌∷◌, refl, subst, sym, ap, ◌∙◌, if◌then◌else◌, map}
-use Rattle.std.specs.Prelude.{◌==◌, nat_lt, Option, Some, None, slice_get, count_by, position, find, flat_map, unwrap_or, option_map}
+-- Offered to the crates above: what drives a net is what names it as its output, since nothing else does.
+use Rattle.std.proofs.Common.{◌≡◌, ℕ, ◌+◌, ◌<◌, ◌≤◌, arith, Bool, true, false, refl, sym, ap, ◌∙◌, if◌then◌else◌}
+use Rattle.std.specs.Prelude.{◌==◌, nat_lt, Option, Some, None, slice_get, count_by, position, find, unwrap_or, option_map}
 use Rattle.std.specs.Option.{option_or}
 use Rattle.std.specs.List.{enumerate_from}
 use Rattle.std.proofs.lemmas.Bool.Decides.{nat_tests}
-use Rattle.std.proofs.lemmas.Option.{none-some, same_Some, slice_get-map}
+use Rattle.std.proofs.lemmas.Option.{slice_get-map}
 use Rattle.id_arena.specs.declared.keys.NetId.{NetId}
 use Rattle.id_arena.specs.declared.keys.ElemId.{ElemId}
 use Rattle.id_arena.specs.declared.keys.MemId.{MemId}
-use Rattle.design_core.specs.declared.element.Element.{Element}
 use Rattle.design_core.specs.declared.element.Memory.{Memory}
 use Rattle.design_core.specs.declared.element.ReadPort.{ReadPort}
 use Rattle.design_core.specs.declared.element.Driver.{Driver}
 use Rattle.design_core.specs.declared.element.Driver.TheVariants.{Constant, Input, Elem, Read}
 use Rattle.design_core.specs.declared.parts.Parts.{Parts}
-use Rattle.design_core.specs.Design.{IsDesign, net_count, driver, driver_count, drives, includes, is_net, port_bits, inner_driver, element_driver, read_driver, read_bits, ReadBit, memory_read_bits, port_read_bits}
+use Rattle.design_core.specs.Design.{IsDesign, net_count, driver_count, drives, includes, is_net, port_bits, inner_driver, element_driver, read_driver, read_bits, ReadBit, memory_read_bits, port_read_bits}
 use Rattle.history_law.specs.Drivers.{ElementIsDriver, DriverIsElement, ReadBitIsDriver, DriverIsReadBit, InputBitIsInput, InputIsInputBit}
-use Rattle.history_law.proofs.Lists.{counted, found, positioned, unplaced, any_counted, none_any, first, find_at, Has, Under, has_under, under_has, enumerated, Numbered, numbered}
+use Rattle.facts.proofs.Counting.{counted, found, positioned, unplaced, first, find_at}
+use Rattle.facts.proofs.Tests.{mapped}
+use Rattle.facts.proofs.Lists.{any_counted, none_any, Has, Under, has_under, under_has, enumerated, Numbered, numbered}
+-- crates above import these from here too
+pub use Rattle.facts.proofs.Tests.{same_number, number_same}
 
 abbrev pick : Bool → Bool → Bool → Option Driver → Driver
 pick low high input inner =
@@ -147,13 +150,8 @@ input_bit_is_input p n d h =
 
 -- ## Read bits
 
-pub same_number : (a b : ℕ) → a ≡ b → (a == b) ≡ true
-same_number a b e = grind (arith, nat_tests)
-
-pub number_same : (a b : ℕ) → (a == b) ≡ true → a ≡ b
-number_same a b e = grind (arith, nat_tests)
-
-abbrev read_bit : ℕ → ℕ → ℕ → ℕ → ReadBit
+-- a read bit by its net, memory, port and number
+abbrev pub read_bit : ℕ → ℕ → ℕ → ℕ → ReadBit
 read_bit n m r b = record { net = n; mem = m; port = r; bit = b }
 
 has_bit : (port : ReadPort) (n : NetId) (m r b : ℕ) → slice_get port.bits b ≡ Some n → Has (port_read_bits m r port) (read_bit n.place m r b)
@@ -209,10 +207,6 @@ record PortBitAt (m r : ℕ) (port : ReadPort) (x : ReadBit) : Type 0 where
   is : net.place ≡ x.net
   mem : x.mem ≡ m
   port_is : x.port ≡ r
-
-mapped : {A B : Type 0} (f : A → B) (o : Option A) (y : B) → option_map f o ≡ Some y → (x : A) × (o ≡ Some x) × (f x ≡ y)
-mapped f None y e = absurd (none-some y e)
-mapped f (Some x) y e = (x, refl, same_Some (f x) y e)
 
 port_bit_at : (m r : ℕ) (port : ReadPort) (x : ReadBit) → Has (port_read_bits m r port) x → PortBitAt m r port x
 port_bit_at m r port x h =

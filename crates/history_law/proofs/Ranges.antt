@@ -1,10 +1,11 @@
--- What a node depends on is in the design.
-use Rattle.std.proofs.Common.{◌≡◌, ℕ, zero, suc, ◌+◌, ◌<◌, ◌≤◌, max, arith, Bool, true, false, List, [], ◌∷◌, ◌++◌, map, length, refl, subst, sym, ap, ◌∙◌}
-use Rattle.std.specs.Prelude.{◌==◌, ◌||◌, Option, Some, None, Contains, slice_get, flat_map}
+-- Offered to the crates above: what a node depends on is in the design.
+use Rattle.std.proofs.Common.{◌≡◌, ℕ, zero, suc, ◌+◌, ◌<◌, arith, Bool, true, false, List, [], ◌∷◌, ◌++◌, map, length, refl, subst, ap}
+use Rattle.std.specs.Prelude.{◌||◌, Option, Some, None, Contains, slice_get, flat_map}
 use Rattle.std.specs.List.{list_any, enumerate_from}
 use Rattle.std.proofs.lemmas.Option.{none-some, same_Some}
 use Rattle.id_arena.specs.declared.keys.NetId.{NetId}
 use Rattle.id_arena.specs.declared.keys.MemId.{MemId}
+use Rattle.design_core.specs.declared.element.Edge.{Edge}
 use Rattle.design_core.specs.declared.element.Element.{Element}
 use Rattle.design_core.specs.declared.element.Element.TheVariants as element
 use Rattle.design_core.specs.declared.element.Memory.{Memory}
@@ -15,10 +16,9 @@ use Rattle.design_core.specs.declared.element.Driver.TheVariants.{Constant, Inpu
 use Rattle.design_core.specs.declared.node.NodeId.{NodeId}
 use Rattle.design_core.specs.declared.node.NodeId.TheVariants.{Net, Write}
 use Rattle.design_core.specs.declared.parts.Parts.{Parts}
-use Rattle.design_core.specs.Design.{IsDesign, net_count, driver, includes, is_net, nets_read, element_reads, memory_reads, write_reads, port_bits, reset_nets}
-use Rattle.design_core.specs.Dependency.{dependencies, driver_needs, needs, needs_at, read_needs, read_needs_at, write_nodes, write_needs, write_needs_at, write_before, above}
-use Rattle.history_law.proofs.Lists.{no}
-use Rattle.history_law.proofs.Naming.{same_number}
+use Rattle.design_core.specs.Design.{IsDesign, net_count, driver, includes, is_net, nets_read, element_reads, memory_reads, write_reads, read_reads, clock_nets, port_bits}
+use Rattle.design_core.specs.Dependency.{dependencies, driver_needs, needs, needs_at, port_needs, read_needs, read_needs_at, write_nodes, write_needs, write_needs_at, write_before, above}
+use Rattle.facts.proofs.Tests.{no, same_number}
 
 -- ## Each node of a list
 
@@ -26,10 +26,10 @@ abbrev pub Each : (NodeId → Type 0) → List NodeId → Type 0
 Each P [] = Unit {0}
 Each P (a ∷ rest) = P a × Each P rest
 
-pub here : (a : NodeId) (rest : List NodeId) → Contains (a ∷ rest) a
+here : (a : NodeId) (rest : List NodeId) → Contains (a ∷ rest) a
 here a rest = let low : 0 < length (a ∷ rest) = omega arith in (0, low, refl)
 
-pub there : (a b : NodeId) (rest : List NodeId) → Contains rest b → Contains (a ∷ rest) b
+there : (a b : NodeId) (rest : List NodeId) → Contains rest b → Contains (a ∷ rest) b
 there a b rest c =
     let low : c.0 < length rest = c.1 in
     let more : suc c.0 < length (a ∷ rest) = omega arith in
@@ -65,7 +65,7 @@ each_write P m n (x ∷ xs) (suc j) k port h at e =
     let same : (n + 1) + j ≡ k = omega arith in
     each_write P m (n + 1) xs j k port h.1 at same
 
-pub all_writes : (P : NodeId → Type 0) (m : MemId) (n : ℕ) (ports : List WritePort) → ((k : ℕ) → P (Write m k)) → Each P (map (λ (k, port). Write m k) (enumerate_from n ports))
+all_writes : (P : NodeId → Type 0) (m : MemId) (n : ℕ) (ports : List WritePort) → ((k : ℕ) → P (Write m k)) → Each P (map (λ (k, port). Write m k) (enumerate_from n ports))
 all_writes P m n [] h = tt
 all_writes P m n (x ∷ xs) h = (h n, all_writes P m (n + 1) xs h)
 
@@ -114,7 +114,7 @@ module _ (p : Parts) where
   pub within_right : (xs ys : List NetId) → Within p (xs ++ ys) → Within p ys
   within_right xs ys h = record { within = λ n e. h.within n (any_right (is_net n) xs ys e) }
 
-  pub within_item : {X : Type 0} (f : X → List NetId) (xs : List X) (k : ℕ) (x : X) → slice_get xs k ≡ Some x → Within p (flat_map f xs) → Within p (f x)
+  within_item : {X : Type 0} (f : X → List NetId) (xs : List X) (k : ℕ) (x : X) → slice_get xs k ≡ Some x → Within p (flat_map f xs) → Within p (f x)
   within_item f [] k x at h = absurd (none-some x at)
   within_item f (y ∷ ys) zero x at h =
       subst (λ z. Within p (f z)) (same_Some y x at) (within_left (f y) (flat_map f ys) h)
@@ -144,12 +144,21 @@ module _ (p : Parts) where
     pub write_within : (m k : ℕ) (memory : Memory) (port : WritePort) → slice_get p.memories m ≡ Some memory → slice_get memory.writes k ≡ Some port → Within p (write_reads port)
     write_within m k memory port at in_port =
         within_item write_reads memory.writes k port in_port
-        (within_left (flat_map write_reads memory.writes) (flat_map (λ (q : ReadPort). q.address) memory.reads) (memory_within m memory at))
+        (within_left (flat_map write_reads memory.writes) (flat_map read_reads memory.reads) (memory_within m memory at))
 
-    pub read_within : (m r : ℕ) (memory : Memory) (port : ReadPort) → slice_get p.memories m ≡ Some memory → slice_get memory.reads r ≡ Some port → Within p port.address
+    pub read_within : (m r : ℕ) (memory : Memory) (port : ReadPort) → slice_get p.memories m ≡ Some memory → slice_get memory.reads r ≡ Some port → Within p (read_reads port)
     read_within m r memory port at in_port =
-        within_item (λ (q : ReadPort). q.address) memory.reads r port in_port
-        (within_right (flat_map write_reads memory.writes) (flat_map (λ (q : ReadPort). q.address) memory.reads) (memory_within m memory at))
+        within_item read_reads memory.reads r port in_port
+        (within_right (flat_map write_reads memory.writes) (flat_map read_reads memory.reads) (memory_within m memory at))
+
+    pub address_within : (m r : ℕ) (memory : Memory) (port : ReadPort) → slice_get p.memories m ≡ Some memory → slice_get memory.reads r ≡ Some port → Within p port.address
+    address_within m r memory port at in_port =
+        within_right (clock_nets port.clock) port.address (read_within m r memory port at in_port)
+
+    pub read_clock_within : (m r : ℕ) (memory : Memory) (port : ReadPort) (edge : Edge) → slice_get p.memories m ≡ Some memory → slice_get memory.reads r ≡ Some port → port.clock ≡ Some edge → edge.net.place < net_count p
+    read_clock_within m r memory port edge at in_port clocked =
+        let clock : Within p (clock_nets port.clock) = within_left (clock_nets port.clock) port.address (read_within m r memory port at in_port) in
+        (within_each (edge.net ∷ []) (subst (λ (c : Option Edge). Within p (clock_nets c)) clocked clock)).0
 
     needs_range : (e : Element) → Each (InRange p) (map Net (element_reads e)) → Each (InRange p) (map Net (needs e))
     needs_range (element.Gate op inputs output) h = h
@@ -163,10 +172,14 @@ module _ (p : Parts) where
 
     port_range : (m : MemId) (memory : Memory) → slice_get p.memories m.place ≡ Some memory → (r : ℕ) (o : Option ReadPort) → slice_get memory.reads r ≡ o → Each (InRange p) (read_needs m memory o)
     port_range m memory at r None in_port = tt
-    port_range m memory at r (Some port) in_port =
-        each_both (InRange p) (map Net port.address) (write_nodes m memory)
-        (within_each port.address (read_within m.place r memory port at in_port))
-        (all_writes (InRange p) m 0 memory.writes (λ k. tt))
+    port_range m memory at r (Some port) in_port = bit_range port.clock refl
+      where
+        bit_range : (c : Option Edge) → port.clock ≡ c → Each (InRange p) (port_needs m memory port.address c)
+        bit_range None e =
+            each_both (InRange p) (map Net port.address) (write_nodes m memory)
+            (within_each port.address (address_within m.place r memory port at in_port))
+            (all_writes (InRange p) m 0 memory.writes (λ k. tt))
+        bit_range (Some edge) e = (read_clock_within m.place r memory port edge at in_port e, tt)
 
     read_range : (m : MemId) (r : ℕ) (o : Option Memory) → slice_get p.memories m.place ≡ o → Each (InRange p) (read_needs_at m o r)
     read_range m r None at = tt

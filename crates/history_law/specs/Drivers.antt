@@ -1,4 +1,5 @@
 -- What the driver of a net names, for designs in which no net has two drivers.
+-- The rule is told in docs/RULES.md, "The design".
 use Rattle.std.specs.Prelude.{◌≡◌, ◌<◌, ℕ, Some, true, slice_get}
 use Rattle.id_arena.specs.declared.keys.NetId.{NetId}
 use Rattle.id_arena.specs.declared.keys.ElemId.{ElemId}
@@ -13,48 +14,48 @@ use Rattle.design_core.specs.Design.{IsDesign, net_count, driver, drives, includ
 -- an element with a net as its output is there among the drivers: it is what drives that net
 abbrev pub ElementIsDriver : Type 0
 ElementIsDriver =
-    (p : Parts) (k n : ℕ) (e : Element)
+    (p : Parts) (element net : ℕ) (e : Element)
     → IsDesign p
-    → slice_get p.elements k ≡ Some e
-    → drives n e ≡ true
-    → (n < net_count p) × (driver p n ≡ Elem (record { place = k }))
+    → slice_get p.elements element ≡ Some e
+    → drives net e ≡ true
+    → (net < net_count p) × (driver p net ≡ Elem (record { place = element }))
 
 -- an element that is named as what drives a net is there, and the net is its output
 abbrev pub DriverIsElement : Type 0
 DriverIsElement =
-    (p : Parts) (n : ℕ) (k : ElemId)
-    → driver p n ≡ Elem k
-    → (e : Element) × (slice_get p.elements k.place ≡ Some e) × (drives n e ≡ true)
+    (p : Parts) (net : ℕ) (element : ElemId)
+    → driver p net ≡ Elem element
+    → (e : Element) × (slice_get p.elements element.place ≡ Some e) × (drives net e ≡ true)
 
 -- a bit of a read port is what drives its net
 abbrev pub ReadBitIsDriver : Type 0
 ReadBitIsDriver =
-    (p : Parts) (m r b : ℕ) (memory : Memory) (port : ReadPort) (n : NetId)
+    (p : Parts) (mem read bit : ℕ) (memory : Memory) (port : ReadPort) (net : NetId)
     → IsDesign p
-    → slice_get p.memories m ≡ Some memory
-    → slice_get memory.reads r ≡ Some port
-    → slice_get port.bits b ≡ Some n
-    → (n.place < net_count p) × (driver p n.place ≡ Read (record { place = m }) r b)
+    → slice_get p.memories mem ≡ Some memory
+    → slice_get memory.reads read ≡ Some port
+    → slice_get port.bits bit ≡ Some net
+    → (net.place < net_count p) × (driver p net.place ≡ Read (record { place = mem }) read bit)
 
 -- a read bit that is named as what drives a net is there, and drives that net
 abbrev pub DriverIsReadBit : Type 0
 DriverIsReadBit =
-    (p : Parts) (n : ℕ) (m : MemId) (r b : ℕ)
-    → driver p n ≡ Read m r b
+    (p : Parts) (n : ℕ) (mem : MemId) (read bit : ℕ)
+    → driver p n ≡ Read mem read bit
     → (memory : Memory) × (port : ReadPort) × (net : NetId)
-    × (slice_get p.memories m.place ≡ Some memory)
-    × (slice_get memory.reads r ≡ Some port)
-    × (slice_get port.bits b ≡ Some net)
+    × (slice_get p.memories mem.place ≡ Some memory)
+    × (slice_get memory.reads read ≡ Some port)
+    × (slice_get port.bits bit ≡ Some net)
     × (net.place ≡ n)
 
 -- a bit of an input port is driven from outside
 abbrev pub InputBitIsInput : Type 0
 InputBitIsInput =
-    (p : Parts) (n : ℕ)
+    (p : Parts) (net : ℕ)
     → IsDesign p
-    → includes (port_bits p.inputs) n ≡ true
-    → (n < net_count p) × (driver p n ≡ Input)
+    → includes (port_bits p.inputs) net ≡ true
+    → (net < net_count p) × (driver p net ≡ Input)
 
 -- a net that is driven from outside is a bit of an input port
 abbrev pub InputIsInputBit : Type 0
-InputIsInputBit = (p : Parts) (n : ℕ) → driver p n ≡ Input → includes (port_bits p.inputs) n ≡ true
+InputIsInputBit = (p : Parts) (net : ℕ) → driver p net ≡ Input → includes (port_bits p.inputs) net ≡ true

@@ -1,4 +1,5 @@
 -- What holds of every event of every design.
+-- The rule is told in docs/RULES.md, "After an event".
 use Rattle.std.specs.Prelude.{List}
 use Rattle.design_core.specs.declared.parts.Parts.{Parts}
 use Rattle.design_core.specs.declared.values.PortBit.{PortBit}

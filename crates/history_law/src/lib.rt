@@ -7,3 +7,4 @@
 pub mod drivers;
 pub mod events;
 pub mod outside;
+pub mod words;

@@ -1,4 +1,4 @@
--- There is a history, and no other.
+-- Offered to the crates above: there is a history, and no other.
 use Rattle.std.proofs.Common.{◌≡◌, ℕ, ◌<◌, Bool, List, [], ◌∷◌, refl, sym, ◌∙◌}
 use Rattle.design_core.specs.declared.node.NodeId.TheVariants.{Net}
 use Rattle.design_core.specs.declared.parts.Parts.{Parts}

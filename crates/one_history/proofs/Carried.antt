@@ -4,16 +4,20 @@ use Rattle.std.specs.Prelude.{◌==◌, ◌&&◌, Some, slice_get, unwrap_or}
 use Rattle.id_arena.specs.declared.keys.NetId.{NetId}
 use Rattle.design_core.specs.declared.element.Element.{Element}
 use Rattle.design_core.specs.declared.element.Element.TheVariants as element
+use Rattle.design_core.specs.declared.element.ReadPort.{ReadPort}
 use Rattle.design_core.specs.declared.element.WritePort.{WritePort}
 use Rattle.design_core.specs.declared.node.NodeId.TheVariants.{Net}
 use Rattle.design_core.specs.declared.parts.Parts.{Parts}
 use Rattle.design_core.specs.declared.values.PortBit.{PortBit}
-use Rattle.design_core.specs.Operation.{number}
+use Rattle.design_core.specs.Operation.{number, bit_of}
 use Rattle.design_core.specs.Design.{IsDesign, net_count, element_reads, write_reads}
-use Rattle.design_core.specs.Valuation.{Valuation, values, shown_number, has_edge, acts, forced, passed, SameValues}
-use Rattle.design_core.specs.Event.{given, ElementFollows, stores, written, IsAfter}
-use Rattle.history_law.proofs.Naming.{same_number, element_is_driver}
-use Rattle.history_law.proofs.Ranges.{Each, Within, within_left, within_right, within_each, element_within, write_within, InRange}
+use Rattle.design_core.specs.Valuation.{Valuation, values, shown_number, addressed_bit, has_edge, acts, forced, passed, IsAddress, SameValues}
+use Rattle.design_core.specs.Settled.{IsReadBit}
+use Rattle.design_core.specs.Event.{given, ElementFollows, stores, written, ClockedReadsFollow, IsAfter}
+use Rattle.facts.proofs.Tests.{same_number}
+use Rattle.history_law.proofs.Naming.{element_is_driver, read_bit_is_driver}
+use Rattle.history_law.proofs.Afterwards.{address_bound}
+use Rattle.history_law.proofs.Ranges.{Each, Within, within_left, within_right, within_each, element_within, write_within, address_within, read_clock_within, InRange}
 
 module _ (p : Parts) (v u : Valuation) (same : SameValues p v u) where
   values_carry : (nets : List NetId) → Each (InRange p) (map Net nets) → values u nets ≡ values v nets
@@ -64,6 +68,24 @@ module _ (p : Parts) (v u : Valuation) (same : SameValues p v u) where
           h ∙ ap (unwrap_or (passed l w)) (sym (same.nets l.q.place q))
       element_carries k (element.Memory m) at reads h = tt
 
+      addressed_carries : (m r b : ℕ) (port : ReadPort) (n : NetId) → IsReadBit p m r b port n → addressed_bit u m port b ≡ addressed_bit v m port b
+      addressed_carries m r b port n is =
+          let address : values u port.address ≡ values v port.address =
+          values_carry port.address (within_each p port.address (address_within p d m r is.memory port is.is_memory is.is_port)) in
+          let there : IsAddress p m (shown_number v port.address) =
+          (is.memory, is.is_memory, address_bound p v m r is.memory port d is.is_memory is.is_port) in
+          ap (λ bs. bit_of (u.word m (number bs)) b) address
+          ∙ ap (λ x. bit_of x b) (sym (same.words m (shown_number v port.address) there))
+
+      reads_carry : ClockedReadsFollow p u w → ClockedReadsFollow p v w
+      reads_carry h m r b port edge n is clocked =
+          let clock = read_clock_within p d m r is.memory port edge is.is_memory is.is_port clocked in
+          let own : n.place < net_count p = (read_bit_is_driver p m r b is.memory port n d is.is_memory is.is_port is.is_bit).0 in
+          h m r b port edge n is clocked
+          ∙ ap (λ t. if t then addressed_bit u m port b else u.net n.place) (edge_carry edge.net edge.rise clock)
+          ∙ ap (λ x. if has_edge v w edge.net edge.rise then x else u.net n.place) (addressed_carries m r b port n is)
+          ∙ ap (λ x. if has_edge v w edge.net edge.rise then addressed_bit v m port b else x) (sym (same.nets n.place own))
+
       pub after_carries : (event : List PortBit) → IsAfter p u event w → IsAfter p v event w
       after_carries event h =
           record {
@@ -75,4 +97,5 @@ module _ (p : Parts) (v u : Valuation) (same : SameValues p v u) where
                 ∙ ap (written u w memory.writes a) (sym (same.words m a address))
                 ∙ written_carry memory.writes a (v.word m a) (λ k port in_port. write_within p d m k memory port at in_port);
             reads = h.reads;
+            clocked = reads_carry h.clocked;
           }

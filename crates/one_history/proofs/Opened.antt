@@ -1,23 +1,36 @@
 -- The opened valuation is the solution of the equations that start from what the opening gives.
 use Rattle.std.proofs.Common.{◌≡◌, ℕ, Bool, refl, sym, ap, ◌∙◌}
 use Rattle.std.specs.Prelude.{Option, Some, None, IfSome, IfNone, unwrap_or}
+use Rattle.id_arena.specs.declared.keys.NetId.{NetId}
+use Rattle.design_core.specs.declared.element.Edge.{Edge}
 use Rattle.design_core.specs.declared.element.Element.{Element}
 use Rattle.design_core.specs.declared.element.Element.TheVariants as element
+use Rattle.design_core.specs.declared.element.ReadPort.{ReadPort}
 use Rattle.design_core.specs.declared.parts.Parts.{Parts}
 use Rattle.design_core.specs.Operation.{bit_of}
 use Rattle.design_core.specs.Design.{IsDesign}
-use Rattle.design_core.specs.Valuation.{Valuation, shown_number, forced, passed}
-use Rattle.design_core.specs.Settled.{ElementHolds, Opening, HasState, IsOpened}
+use Rattle.design_core.specs.Valuation.{Valuation, shown_number, forced, passed, IsAddress}
+use Rattle.design_core.specs.Settled.{ElementHolds, IsReadBit, Opening, HasState, IsOpened}
+use Rattle.history_law.proofs.Naming.{read_bit}
 use Rattle.history_law.proofs.Following.{shown}
-use Rattle.history_law.proofs.Equations.{Start, Equations, ElementShows, IsLocal}
+use Rattle.history_law.proofs.Equations.{Start, Equations, ElementShows, IsLocal, read_shows}
 use Rattle.history_law.proofs.Afterwards.{address_bound}
 
 abbrev pub open_start : Opening → Start
-open_start o = record { state = λ u k e. o.states k; word = λ u m a. o.words m a }
+open_start o =
+    record {
+      state = λ u k e. o.states k;
+      word = λ u m a. o.words m a;
+      read = λ u x port edge. o.reads x.mem x.port x.bit;
+    }
 
 pub open_local : (p : Parts) (o : Opening) → IsLocal p (open_start o)
 open_local p o =
-    record { state = λ u w k e h. refl; word = λ u w m a memory at h. refl }
+    record {
+      state = λ u w k e h. refl;
+      word = λ u w m a memory at h. refl;
+      read = λ u w x port edge h. refl;
+    }
 
 -- ## From the opening to the equations and back
 
@@ -55,11 +68,14 @@ module _ (p : Parts) (o : Opening) (v : Valuation) (d : IsDesign p) where
         constants = h.settled.constants;
         inputs = h.inputs;
         elements = λ k x at. element_opens v (o.states k) x (h.settled.elements k x at) (h.states k x at);
-        reads = λ m r b memory port n at in_port in_bit.
-            h.settled.reads m r b memory port n at in_port in_bit
-            ∙ ap (λ x. bit_of x b)
-            (h.words m (shown_number v port.address) (memory, at, address_bound p v m r memory port d at in_port));
+        reads = λ m r b port n is. bit_opens m r b port n is port.clock refl;
       }
+    where
+      bit_opens : (m r b : ℕ) (port : ReadPort) (n : NetId) → IsReadBit p m r b port n → (c : Option Edge) → port.clock ≡ c → v.net n.place ≡ read_shows (open_start o) v (read_bit n.place m r b) port c
+      bit_opens m r b port n is None free =
+          let there : IsAddress p m (shown_number v port.address) = (is.memory, is.is_memory, address_bound p v m r is.memory port d is.is_memory is.is_port) in
+          h.settled.reads m r b port n is free ∙ ap (λ x. bit_of x b) (h.words m (shown_number v port.address) there)
+      bit_opens m r b port n is (Some edge) clocked = h.reads m r b port edge n is clocked
 
   pub equations_open : Equations p (open_start o) o.inputs v → ((m a : ℕ) → v.word m a ≡ o.words m a) → IsOpened p o v
   equations_open h words =
@@ -67,11 +83,14 @@ module _ (p : Parts) (o : Opening) (v : Valuation) (d : IsDesign p) where
         settled = record {
           constants = h.constants;
           elements = λ k x at. element_holds v (o.states k) x (h.elements k x at);
-          reads = λ m r b memory port n at in_port in_bit.
-              h.reads m r b memory port n at in_port in_bit
+          reads = λ m r b port n is free.
+              h.reads m r b port n is
+              ∙ ap (read_shows (open_start o) v (read_bit n.place m r b) port) free
               ∙ ap (λ x. bit_of x b) (sym (words m (shown_number v port.address)));
         };
         inputs = h.inputs;
         words = λ m a address. words m a;
         states = λ k x at. element_state v (o.states k) x (h.elements k x at);
+        reads = λ m r b port edge n is clocked.
+            h.reads m r b port n is ∙ ap (read_shows (open_start o) v (read_bit n.place m r b) port) clocked;
       }
