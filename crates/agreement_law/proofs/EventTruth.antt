@@ -1,10 +1,8 @@
 -- The facts of an event of a group, and of the event that gives nothing.
-use Rattle.std.proofs.Common.{◌≡◌, ℕ, zero, suc, ◌<◌, arith, Bool, true, false, List, [], ◌∷◌, length, get_or, refl, subst, sym, ap, ◌∙◌, inl, inr, if◌then◌else◌}
-use Rattle.std.specs.Prelude.{◌⊎◌, Option, Some, None, slice_get, unwrap_or, option_and_then, Contains, IfSome}
+use Rattle.std.proofs.Common.{◌≡◌, ℕ, zero, suc, ◌<◌, arith, Bool, true, false, List, [], ◌∷◌, length, get_or, refl, subst, sym, ap, ◌∙◌, inl, inr}
+use Rattle.std.specs.Prelude.{◌⊎◌, Option, Some, None, slice_get, option_and_then, Contains}
 use Rattle.std.proofs.lemmas.Option.{none-some, slice_get_within, slice_get-get_or}
 use Rattle.id_arena.specs.declared.keys.MemId.{MemId}
-use Rattle.design_core.specs.declared.element.Element.{Element}
-use Rattle.design_core.specs.declared.element.Element.TheVariants as element
 use Rattle.design_core.specs.declared.element.Memory.{Memory}
 use Rattle.design_core.specs.declared.element.WritePort.{WritePort}
 use Rattle.design_core.specs.declared.node.NodeId.{NodeId}
@@ -12,23 +10,22 @@ use Rattle.design_core.specs.declared.node.NodeId.TheVariants.{Net, Write}
 use Rattle.design_core.specs.declared.parts.Parts.{Parts}
 use Rattle.design_core.specs.declared.values.PortBit.{PortBit}
 use Rattle.design_core.specs.Design.{IsDesign}
-use Rattle.design_core.specs.Valuation.{Valuation, forced, passed}
-use Rattle.design_core.specs.Settled.{IsSettled, ElementHolds}
-use Rattle.design_core.specs.Event.{IsAfter, ElementFollows}
+use Rattle.design_core.specs.Valuation.{Valuation}
+use Rattle.design_core.specs.Settled.{IsSettled}
+use Rattle.design_core.specs.Event.{IsAfter}
 use Rattle.design_core.specs.Dependency.{IsRanked, dependencies, write_needs, write_needs_at}
-use Rattle.design_core.specs.Influence.{Group, IsInfluence, IsReached, over}
+use Rattle.design_core.specs.Influence.{Group, IsInfluence, over}
 use Rattle.marks_law.specs.Facts.{DriverFacts, EventFacts}
-use Rattle.marks_law.proofs.Plain.{no}
 use Rattle.history_law.proofs.Naming.{element_is_driver, driver_is_element, read_bit_is_driver, input_bit_is_input}
 use Rattle.history_law.proofs.Following.{events_keep_settled}
-use Rattle.history_law.proofs.Untouched.{outside_stays, outside_stores_nothing}
-use Rattle.history_law.proofs.Afterwards.{no_edge, written_idle, stores_nothing}
+use Rattle.history_law.proofs.Untouched.{after_nothing, not_inside, outside_stays, outside_stores_nothing}
+use Rattle.history_law.proofs.Afterwards.{stores_nothing}
 
-pub and_then_is : {X : Type 0} {Y : Type 0} (f : X → Option Y) (o : Option X) (y : Y) → option_and_then f o ≡ Some y → (x : X) × (o ≡ Some x) × (f x ≡ Some y)
+and_then_is : {X : Type 0} {Y : Type 0} (f : X → Option Y) (o : Option X) (y : Y) → option_and_then f o ≡ Some y → (x : X) × (o ≡ Some x) × (f x ≡ Some y)
 and_then_is f None y h = absurd (none-some y h)
 and_then_is f (Some x) y h = (x, refl, h)
 
-pub driver_facts : (p : Parts) → IsDesign p → DriverFacts p
+driver_facts : (p : Parts) → IsDesign p → DriverFacts p
 driver_facts p d =
     record {
       element = λ n e h. driver_is_element p n e h;
@@ -48,9 +45,6 @@ below_next (suc j) (suc k) h =
     elim (below_next j k less) [ inl e ↦ inl (ap suc e) | inr l ↦ let low : suc j < suc k = omega arith in inr low ]
 
 module _ (p : Parts) (g : Group) (inside : NodeId → Bool) (i : IsInfluence p g inside) where
-  not_inside : (a : NodeId) → inside a ≡ false → IsReached p g.nets a → ⊥
-  not_inside a out h = no (sym out ∙ (i a).1 h)
-
   -- a write port that is not reached comes after ports that are not reached
   port_before : (m : MemId) (k : ℕ) (memory : Memory) (port : WritePort) → slice_get p.memories m.place ≡ Some memory → slice_get memory.writes (suc k) ≡ Some port
       → inside (Write m (suc k)) ≡ false → inside (Write m k) ≡ false
@@ -65,7 +59,7 @@ module _ (p : Parts) (g : Group) (inside : NodeId → Bool) (i : IsInfluence p g
       go : (b : Bool) → inside (Write m k) ≡ b → inside (Write m k) ≡ false
       go false e = e
       go true e =
-          absurd (not_inside (Write m (suc k)) out (over (Write m (suc k)) (Write m k) (subst (λ nodes. Contains nodes (Write m k)) (sym needs) second) ((i (Write m k)).0 e)))
+          absurd (not_inside p g inside i (Write m (suc k)) out (over (Write m (suc k)) (Write m k) (subst (λ nodes. Contains nodes (Write m k)) (sym needs) second) ((i (Write m k)).0 e)))
 
   ports_before : (m : MemId) (memory : Memory) → slice_get p.memories m.place ≡ Some memory → (k j : ℕ) (port : WritePort) → j < k → slice_get memory.writes k ≡ Some port
       → inside (Write m k) ≡ false → inside (Write m j) ≡ false
@@ -99,32 +93,13 @@ module _ (p : Parts) (g : Group) (inside : NodeId → Bool) (i : IsInfluence p g
 
 -- ## The event that gives nothing
 
-kept_value : (o : Option Bool) (x d : Bool) → IfSome o (λ b. x ≡ b) → x ≡ d → x ≡ unwrap_or o d
-kept_value None x d h e = e
-kept_value (Some b) x d h e = h
-
-element_stays : (v : Valuation) (e : Element) → ElementHolds v e → ElementFollows v v e
-element_stays v (element.Gate op inputs output) h = h
-element_stays v (element.Flop f) h =
-    kept_value (forced f.clear f.preset v) (v.net f.q.place) _ h
-    (sym (ap (λ b. if b then v.net f.feed.place else v.net f.q.place) (no_edge f.rise (v.net f.clock.place) (v.net f.clock.place) refl)))
-element_stays v (element.Latch l) h = kept_value (passed l v) (v.net l.q.place) _ h refl
-element_stays v (element.Memory m) h = tt
-
 pub nothing_happens : (p : Parts) (v : Valuation) → IsDesign p → IsSettled p v → EventFacts p (λ a. true) v [] v
 nothing_happens p v d settled =
     record {
       drivers = driver_facts p d;
       settled = settled;
       stays_settled = settled;
-      follows =
-          record {
-            constants = settled.constants;
-            inputs = λ n low e. refl;
-            elements = λ k e at. element_stays v e (settled.elements k e at);
-            words = λ m a memory at address. sym (written_idle v v memory.writes a (v.word m a) (λ j port in_port. refl));
-            reads = settled.reads;
-          };
+      follows = after_nothing p v d settled;
       nets = λ n low out. refl;
       writes = λ m k port at out. stores_nothing v v port refl;
       in_order = λ m j k port less at out. out;

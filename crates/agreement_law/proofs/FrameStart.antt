@@ -6,6 +6,7 @@ use Rattle.std.specs.Option.{option_map_or}
 use Rattle.std.proofs.Math.Seq.{take-nil}
 use Rattle.std.proofs.lemmas.List.Sums.{sum_by-cons}
 use Rattle.id_arena.specs.declared.keys.MemId.{MemId}
+use Rattle.id_arena.specs.declared.wire.Wire.{Wire}
 use Rattle.design_core.specs.declared.element.Memory.{Memory}
 use Rattle.design_core.specs.declared.element.WritePort.{WritePort}
 use Rattle.design_core.specs.declared.node.NodeId.{NodeId}
@@ -16,18 +17,19 @@ use Rattle.design_core.specs.Design.{IsDesign}
 use Rattle.design_core.specs.Valuation.{Valuation, shown_number}
 use Rattle.design_core.specs.Event.{given, stores, written}
 use Rattle.emu_machine.specs.declared.map.Subject.{Subject}
-use Rattle.emu_machine.specs.declared.map.Subject.TheVariants.{Net, Up, Down, Take, Next, TakeWrite}
+use Rattle.emu_machine.specs.declared.map.Subject.TheVariants.{Net, Up, Down, Take, Next, TakeWrite, Old, TakeRead}
 use Rattle.emu_machine.specs.declared.results.Results.{Results}
-use Rattle.emu_machine.specs.State.{State, present}
+use Rattle.emu_machine.specs.State.{State, Timed, present}
 use Rattle.emu_machine.specs.Mapped.{subject, memory_of, design_write, is_kept, IsValueOf, HoldsState, IsLoaded}
-use Rattle.emu_machine.specs.Marks.{no_mark, only_before, design_writes, writes_of, start_marks}
+use Rattle.emu_machine.specs.Marks.{no_mark, only_before, design_writes, writes_of, start_marks, is_on_its_way}
+use Rattle.emu_machine.specs.Acceptance.{Case}
 use Rattle.marks_law.specs.Facts.{EventFacts}
 use Rattle.marks_law.specs.Truth.{IsTrueOf}
-use Rattle.marks_law.proofs.Plain.{no, not_true}
+use Rattle.facts.proofs.Counting.{counted_found}
+use Rattle.facts.proofs.Tests.{no, left, below, not_true}
 use Rattle.std.proofs.lemmas.Option.{none-some, same_Some}
 use Rattle.history_law.proofs.Naming.{input_is_input_bit, input_bit_is_input}
-use Rattle.agreement_law.specs.Slots.{StateTrue}
-use Rattle.agreement_law.proofs.Places.{counted_found}
+use Rattle.marks_law.specs.Slots.{StateTrue}
 
 -- ## The marks of what is kept
 
@@ -39,13 +41,15 @@ before_true p v w (Some (Down n)) b h = absurd h
 before_true p v w (Some (Take e)) b h = absurd h
 before_true p v w (Some (Next e)) b h = absurd h
 before_true p v w (Some (TakeWrite m k)) b h = absurd h
+before_true p v w (Some (Old m k i)) b h = absurd h
+before_true p v w (Some (TakeRead m k)) b h = absurd h
 
 nothing_true : (p : Parts) (v w : Valuation) (o : Option Subject) (b : Bool) → IsTrueOf p v w o no_mark b
 nothing_true p v w None b = tt
 nothing_true p v w (Some what) b = record { before = λ a. no a; after = λ a. no a }
 
 -- what is kept shows its value from before
-pub kept_true : (p : Parts) (r : Results) (v w : Valuation) (x : State) → HoldsState p r v x → (c n : ℕ) (b : Bool) → is_kept r c n ≡ b → IsTrueOf p v w (subject r c n) (if b then only_before else no_mark) (x.held c n)
+pub kept_true : (p : Parts) (r : Results) (v w : Valuation) (x : State) → HoldsState p r v x → (chip net : ℕ) (b : Bool) → is_kept r chip net ≡ b → IsTrueOf p v w (subject r chip net) (if b then only_before else no_mark) (x.held chip net)
 kept_true p r v w x state c n true e = before_true p v w (subject r c n) (x.held c n) (state.held c n e)
 kept_true p r v w x state c n false e = nothing_true p v w (subject r c n) (x.held c n)
 
@@ -115,7 +119,7 @@ module _ (p : Parts) (inside : NodeId → Bool) (v w : Valuation) (event : List 
           ∙ ap (λ (b : Bool). written v w (take (count_by is_outside (nodes_from (n + 1) ports)) ports) a (if b && (shown_number v port.address == a) then shown_number v port.feed else old)) still
           ∙ rest
 
-module _ (p : Parts) (d : IsDesign p) (r : Results) (inside : NodeId → Bool) (v w : Valuation) (event : List PortBit) (facts : EventFacts p inside v event w) (x : State) (loaded : IsLoaded p r v x) where
+module _ (p : Parts) (r : Results) (inside : NodeId → Bool) (v w : Valuation) (event : List PortBit) (facts : EventFacts p inside v event w) where
   standing_idle : (c m of a : ℕ) (memory : Memory) → memory_of r c m ≡ Some of → slice_get p.memories of ≡ Some memory → (old : ℕ)
       → written v w (take (count_by (λ a. not (inside a)) (writes_of p r c m)) memory.writes) a old ≡ old
   standing_idle c m of a memory at there old =
@@ -128,14 +132,20 @@ module _ (p : Parts) (d : IsDesign p) (r : Results) (inside : NodeId → Bool) (
       ap (option_and_then (λ (memory : Memory). slice_get memory.writes i)) there ∙ ap (slice_get memory.writes) (sym same) ∙ in_ports)
       a old
 
-  pub start_true : StateTrue p r v w (start_marks p r inside) (present event x)
+-- no action is on its way as a frame starts
+none_on_its_way : (wires : List Wire) (a : Timed) → is_on_its_way wires 0 a ≡ true → ⊥
+none_on_its_way wires a h = let before : a.slot < 0 = below _ _ (left _ _ h) in omega arith
+
+module _ (c : Case) (d : IsDesign c.design) (frame : ℕ) (inside : NodeId → Bool) (v w : Valuation) (event : List PortBit) (facts : EventFacts c.design inside v event w) (x : State) (loaded : IsLoaded c.design c.results v x) where
+  pub start_true : StateTrue c frame 0 v w (start_marks c.design c.results inside) (present event x)
   start_true =
       record {
-        sources = λ c n. kept_true p r v w x loaded.state c n (is_kept r c n) refl;
-        words = λ c m of a memory at there address ok.
-            loaded.state.words c m of a at address ∙ sym (standing_idle c m of a memory at there (v.word of a));
-        untouched = λ c m of a at address ok. loaded.state.words c m of a at address;
+        sources = λ chip n. kept_true c.design c.results v w x loaded.state chip n (is_kept c.results chip n) refl;
+        words = λ chip m of a memory at there address ok.
+            loaded.state.words chip m of a at address ∙ sym (standing_idle c.design c.results inside v w event facts chip m of a memory at there (v.word of a));
+        untouched = λ chip m of a at address ok. loaded.state.words chip m of a at address;
         outside = λ n e.
-            let low = (input_bit_is_input p n d (input_is_input_bit p n e)).0 in
+            let low = (input_bit_is_input c.design n d (input_is_input_bit c.design n e)).0 in
             ap (unwrap_or (given event n)) (loaded.outside n low e) ∙ sym (facts.follows.inputs n low e);
+        flights = λ a wire net register ends has is at under_way. absurd (none_on_its_way c.board.wires a under_way);
       }

@@ -14,22 +14,22 @@ use Rattle.design_core.specs.Valuation.{Valuation}
 use Rattle.design_core.specs.Settled.{IsSettled}
 use Rattle.emu_machine.specs.declared.netlist.EmuGate.{EmuGate}
 use Rattle.emu_machine.specs.declared.map.Subject.{Subject}
-use Rattle.emu_machine.specs.declared.map.Subject.TheVariants.{Net, Up, Down, Take, Next, TakeWrite}
+use Rattle.emu_machine.specs.declared.map.Subject.TheVariants.{Net, Up, Down, Take, Next, TakeWrite, Old, TakeRead}
 use Rattle.emu_machine.specs.declared.results.Results.{Results}
 use Rattle.emu_machine.specs.Netlist.{chip_at, through_gates}
 use Rattle.emu_machine.specs.State.{State, net_value}
 use Rattle.emu_machine.specs.Mapped.{subject, is_kept, HoldsState}
 use Rattle.emu_machine.specs.Marks.{Mark, no_mark, only_before, driver_mark, gate_mark}
-use Rattle.emu_machine.specs.Origins.{Origin, has_origin, origin_of}
+use Rattle.emu_machine.specs.Origins.{has_origin, origin_of}
 use Rattle.emu_machine.specs.Acceptance.{Case, Rule, Holds, plain_driver_mark, plain_gate_mark}
 use Rattle.emu_machine.specs.Headline.{Agrees}
 use Rattle.emu_machine.specs.Law.{IsCase}
 use Rattle.marks_law.specs.Facts.{EventFacts}
 use Rattle.marks_law.specs.Truth.{MarkHolds, IsTrueOf}
-use Rattle.marks_law.proofs.Plain.{no, left, right}
+use Rattle.facts.proofs.Tests.{no}
 use Rattle.marks_law.proofs.Parallel.{in_parallel}
-use Rattle.marks_law.proofs.Inputs.{inputs_true, same_op_is}
-use Rattle.marks_law.proofs.GateMarks.{IsMade, made_true}
+use Rattle.marks_law.proofs.Through.{origin_made}
+use Rattle.marks_law.proofs.GateMarks.{made_true}
 use Rattle.agreement_law.proofs.EventTruth.{nothing_happens}
 use Rattle.agreement_law.proofs.FrameStart.{kept_true}
 use Rattle.agreement_law.proofs.Accepted.{gates_fit, output_subject, output_shows}
@@ -50,20 +50,16 @@ module _ (p : Parts) (inside : NodeId → Bool) (v w : Valuation) (event : List 
   plain_true (Take e) ms b t = t
   plain_true (Next e) ms b t = t
   plain_true (TakeWrite m k) ms b t = t
+  plain_true (Old m k i) ms b t = t
+  plain_true (TakeRead m k) ms b t = t
 
-  module _ (r : Results) (c : ℕ) (gate : EmuGate) (f : ℕ → Mark) (g : ℕ → Bool) (both : (i : ℕ) → IsTrueOf p v w (subject r c i) (f i) (g i)) where
-    by_origin : (o : Option Origin) → has_origin r c gate o ≡ true
-        → IsMade p inside v w event facts gate.op (map (λ i. f i.place) gate.inputs) (map (λ i. g i.place) gate.inputs) o
-    by_origin None h = no h
-    by_origin (Some origin) h =
-        (same_op_is gate.op origin.op (left _ _ h), inputs_true p v w r c f g both gate.inputs origin.inputs (right _ _ h))
-
-    by_fit : (o : Option Subject) → option_map_or (λ what. has_origin r c gate (origin_of p what)) o false ≡ true
+  module _ (r : Results) (chip : ℕ) (gate : EmuGate) (f : ℕ → Mark) (g : ℕ → Bool) (both : (i : ℕ) → IsTrueOf p v w (subject r chip i) (f i) (g i)) where
+    by_fit : (o : Option Subject) → option_map_or (λ what. has_origin r chip gate (origin_of p what)) o false ≡ true
         → IsTrueOf p v w o (plain_gate_mark p o (map (λ i. f i.place) gate.inputs)) (op_value gate.op (map (λ i. g i.place) gate.inputs))
     by_fit None h = no h
     by_fit (Some what) h =
         plain_true what _ _
-        (made_true p inside v w event facts what gate.op (map (λ i. f i.place) gate.inputs) (map (λ i. g i.place) gate.inputs) (by_origin (origin_of p what) h))
+        (made_true p inside v w event facts what gate.op (map (λ i. f i.place) gate.inputs) (map (λ i. g i.place) gate.inputs) (origin_made p inside v w event facts r chip gate f g both (origin_of p what) h))
 
 module _ (c : Case) (is : IsCase c) (inside : ℕ → NodeId → Bool) (rules : (rule : Rule) → Holds c inside rule) (v : Valuation) (settled : IsSettled c.design v) (x : State) (state : HoldsState c.design c.results v x) where
   still : EventFacts c.design (λ a. true) v [] v

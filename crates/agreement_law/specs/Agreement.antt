@@ -1,21 +1,20 @@
--- What is left of agreement once slots keep true marks: frames and runs. The rules are told in
--- docs/RULES.md, "Agreement" and "The headline".
-use Rattle.std.specs.Prelude.{◌≡◌, ℕ, Some, List, slice_get}
+-- Inside the law of acceptance: what is left of agreement once slots keep true marks: frames and runs. The
+-- rules are told in docs/RULES.md, "Agreement" and "The headline".
+use Rattle.std.specs.Prelude.{ℕ, List}
 use Rattle.design_core.specs.declared.values.Event.{Event}
 use Rattle.design_core.specs.Valuation.{Valuation}
 use Rattle.design_core.specs.Settled.{Opening, OpeningFits, IsSettled}
 use Rattle.design_core.specs.Event.{IsAfter, HasOneHistory}
-use Rattle.emu_machine.specs.declared.schedule.Slot.{Slot}
-use Rattle.emu_machine.specs.State.{State, frame_slots}
+use Rattle.emu_machine.specs.State.{State}
 use Rattle.emu_machine.specs.Mapped.{IsLoaded}
 use Rattle.emu_machine.specs.Acceptance.{Case, IsAccepted}
 use Rattle.emu_machine.specs.Headline.{EventFits, EventsFit, event_values, IsSampled, Headline}
 use Rattle.emu_machine.specs.Law.{IsCase}
-use Rattle.agreement_law.specs.Slots.{KeepsMarks}
+use Rattle.marks_law.specs.Slots.{KeepsMarks}
 
 -- the slots of every frame keep true marks true
 abbrev pub SlotsKeep : Case → Type 0
-SlotsKeep c = (k t : ℕ) (slot : Slot) → slice_get (frame_slots c.results k) t ≡ Some slot → KeepsMarks c k slot.actions
+SlotsKeep c = (frame slot : ℕ) → KeepsMarks c frame slot
 
 -- in any event from a settled valuation, the frame of a machine that is loaded from it takes sampled data
 abbrev pub FramesSample : Case → Type 0
@@ -30,7 +29,10 @@ FramesSample c =
 -- for every opening and every list of events of the groups there is exactly one history
 abbrev pub HistoriesAreOne : Case → Type 0
 HistoriesAreOne c =
-    (o : Opening) (events : List Event) → OpeningFits c.design o → EventsFit c events → HasOneHistory c.design o (event_values events)
+    (o : Opening) (events : List Event)
+    → OpeningFits c.design o
+    → EventsFit c events
+    → HasOneHistory c.design o (event_values events)
 
 -- an accepted case has the headline, where its slots keep true marks true, its frames take sampled data,
 -- and its histories are one

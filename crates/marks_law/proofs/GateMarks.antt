@@ -1,6 +1,7 @@
--- The mark of each kind of gate is true of what the gate makes of inputs whose marks are true.
-use Rattle.std.proofs.Common.{◌≡◌, ℕ, zero, suc, arith, Bool, true, false, not, List, [], ◌∷◌, length, map, refl, subst, sym, ap, ◌∙◌, inl, inr, if◌then◌else◌}
-use Rattle.std.specs.Prelude.{◌==◌, ◌&&◌, ◌||◌, ◌⊎◌, ◌<◌, Option, Some, None, slice_get, unwrap_or, option_map, IfSome, zip}
+-- Offered to the crates above: the mark of each kind of gate is true of what the gate makes of inputs whose
+-- marks are true.
+use Rattle.std.proofs.Common.{◌≡◌, ℕ, Bool, true, false, not, List, [], ◌∷◌, map, refl, subst, sym, ap, ◌∙◌, inl, inr, if◌then◌else◌}
+use Rattle.std.specs.Prelude.{◌&&◌, ◌||◌, ◌⊎◌, ◌<◌, Option, Some, None, slice_get, unwrap_or, option_map, option_and_then, IfSome, zip}
 use Rattle.std.specs.List.{list_any}
 use Rattle.std.specs.Option.{option_or, option_map_or}
 use Rattle.id_arena.specs.declared.keys.NetId.{NetId}
@@ -8,33 +9,34 @@ use Rattle.id_arena.specs.declared.keys.ElemId.{ElemId}
 use Rattle.id_arena.specs.declared.keys.MemId.{MemId}
 use Rattle.design_core.specs.declared.operation.Op.{Op}
 use Rattle.design_core.specs.declared.operation.Op.TheVariants.{Table}
+use Rattle.design_core.specs.declared.element.Edge.{Edge}
 use Rattle.design_core.specs.declared.element.Level.{Level}
 use Rattle.design_core.specs.declared.element.Flop.{Flop}
 use Rattle.design_core.specs.declared.element.Latch.{Latch}
+use Rattle.design_core.specs.declared.element.ReadPort.{ReadPort}
 use Rattle.design_core.specs.declared.element.WritePort.{WritePort}
 use Rattle.design_core.specs.declared.element.Element.{Element}
 use Rattle.design_core.specs.declared.element.Element.TheVariants as element
 use Rattle.design_core.specs.declared.element.Driver.{Driver}
 use Rattle.design_core.specs.declared.element.Driver.TheVariants as driven
 use Rattle.design_core.specs.declared.node.NodeId.{NodeId}
-use Rattle.design_core.specs.declared.node.NodeId.TheVariants as node
 use Rattle.design_core.specs.declared.parts.Parts.{Parts}
 use Rattle.design_core.specs.declared.values.PortBit.{PortBit}
-use Rattle.design_core.specs.Operation.{op_value, bit, bit_of}
+use Rattle.design_core.specs.Operation.{op_value, bit}
 use Rattle.design_core.specs.Design.{net_count, driver, drives}
-use Rattle.design_core.specs.Valuation.{Valuation, values, forced, acts, has_edge, reset_acts}
+use Rattle.design_core.specs.Valuation.{Valuation, forced, acts, has_edge, reset_acts}
 use Rattle.design_core.specs.Settled.{ElementHolds}
 use Rattle.design_core.specs.Event.{ElementFollows, stores}
 use Rattle.emu_machine.specs.declared.map.Subject.{Subject}
-use Rattle.emu_machine.specs.declared.map.Subject.TheVariants.{Net, Up, Down, Take, Next, TakeWrite}
-use Rattle.emu_machine.specs.Mapped.{subject_value, flop_at, flop_takes, flop_next, design_write}
-use Rattle.emu_machine.specs.Marks.{Mark, all_before, all_after, has_some, after_if, copied_mark, latch_mark, edge_mark, next_mark, write_take_mark, element_mark, driver_mark, gate_mark}
-use Rattle.emu_machine.specs.Origins.{Origin, origin_of, net_origin, element_origin, latch_origin, take_origin, next_origin, write_take_origin, is_design_net, table_of, acts_at, resets, forced_at, reset_subjects, edge_of, rise_function, fall_function, latch_function, take_function, next_function, write_take_function}
+use Rattle.emu_machine.specs.declared.map.Subject.TheVariants.{Net, Up, Down, Take, Next, TakeWrite, Old, TakeRead}
+use Rattle.emu_machine.specs.Mapped.{subject_value, flop_at, flop_takes, flop_next, read_takes, design_write, design_read}
+use Rattle.emu_machine.specs.Marks.{Mark, all_after, has_some, after_if, copied_mark, latch_mark, edge_mark, next_mark, write_take_mark, read_take_mark, element_mark, driver_mark, gate_mark}
+use Rattle.emu_machine.specs.Origins.{Origin, origin_of, net_origin, element_origin, latch_origin, take_origin, next_origin, write_take_origin, read_take_origin, is_design_net, table_of, acts_at, resets, forced_at, reset_subjects, edge_of, rise_function, fall_function, latch_function, take_function, next_function, write_take_function, read_take_function}
 use Rattle.marks_law.specs.Facts.{EventFacts}
 use Rattle.marks_law.specs.Truth.{MarkHolds}
-use Rattle.marks_law.proofs.Plain.{no, left, right, same_number, below, either}
+use Rattle.facts.proofs.Tests.{left, right, number_same, below, either}
 use Rattle.marks_law.proofs.Tables.{constant_bit}
-use Rattle.marks_law.proofs.Inputs.{AreTrue, split, ended, computes, before_values, after_values}
+use Rattle.marks_law.proofs.Inputs.{AreTrue, first_and_rest, ended, computes, before_values, after_values}
 
 -- ## Resets, latches and flip-flops over values
 
@@ -141,13 +143,13 @@ module _ (p : Parts) (inside : NodeId → Bool) (v w : Valuation) (event : List 
       → (ms : List Mark) (bs : List Bool) → AreTrue p v w (latch_origin l).inputs ms bs
       → MarkHolds p v w (Net (record { place = n })) (latch_mark ms) (latch_function l bs)
   latched n l at old new ms bs h =
-      split p v w (Net l.gate.net) (Net l.feed ∷ Net l.q ∷ reset_subjects l.clear l.preset)
+      first_and_rest p v w (Net l.gate.net) (Net l.feed ∷ Net l.q ∷ reset_subjects l.clear l.preset)
       (λ ms bs. MarkHolds p v w (Net (record { place = n })) (latch_mark ms) (latch_function l bs))
       (λ m ms b bs t rest.
-      split p v w (Net l.feed) (Net l.q ∷ reset_subjects l.clear l.preset)
+      first_and_rest p v w (Net l.feed) (Net l.q ∷ reset_subjects l.clear l.preset)
       (λ ms bs. MarkHolds p v w (Net (record { place = n })) (latch_mark (m ∷ ms)) (latch_function l (b ∷ bs)))
       (λ m2 ms2 b2 bs2 t2 rest2.
-      split p v w (Net l.q) (reset_subjects l.clear l.preset)
+      first_and_rest p v w (Net l.q) (reset_subjects l.clear l.preset)
       (λ ms bs. MarkHolds p v w (Net (record { place = n })) (latch_mark (m ∷ m2 ∷ ms)) (latch_function l (b ∷ b2 ∷ bs)))
       (λ m3 ms3 b3 bs3 t3 rest3. latched_with n l at old new m b t m2 b2 t2 m3 b3 t3 ms3 bs3 rest3)
       ms2 bs2 rest2)
@@ -163,12 +165,12 @@ module _ (p : Parts) (inside : NodeId → Bool) (v w : Valuation) (event : List 
       → ElementHolds v e → ElementHolds w e → ElementFollows v w e
       → IsMade word ms bs (element_origin (Some e))
       → MarkHolds p v w (Net (record { place = n })) (element_mark (Some e) ms) (op_value word bs)
-  of_element n word ms bs (element.Gate op inputs output) d old new follows h = copied n op inputs output (same_number _ _ d) old new word h.0 ms bs h.1
+  of_element n word ms bs (element.Gate op inputs output) d old new follows h = copied n op inputs output (number_same _ _ d) old new word h.0 ms bs h.1
   of_element n word ms bs (element.Latch l) d old new follows h =
       subst
       (λ (b : Bool). MarkHolds p v w (Net (record { place = n })) (latch_mark ms) b)
       (sym (computes p v w word (latch_function l) (latch_origin l).inputs ms bs h.0 h.1))
-      (latched n l (same_number _ _ d) old follows ms bs h.1)
+      (latched n l (number_same _ _ d) old follows ms bs h.1)
   of_element n word ms bs (element.Flop f) d old new follows h = absurd h
   of_element n word ms bs (element.Memory m) d old new follows h = absurd h
 
@@ -203,9 +205,9 @@ module _ (p : Parts) (inside : NodeId → Bool) (v w : Valuation) (event : List 
       → MarkHolds p v w (Up n) (edge_mark ms) (op_value word bs)
   rises n word ms bs e h =
       subst (λ (b : Bool). MarkHolds p v w (Up n) (edge_mark ms) b) (sym (computes p v w word rise_function (Net n ∷ Net n ∷ []) ms bs e h))
-      (split p v w (Net n) (Net n ∷ []) (λ ms bs. MarkHolds p v w (Up n) (edge_mark ms) (rise_function bs))
+      (first_and_rest p v w (Net n) (Net n ∷ []) (λ ms bs. MarkHolds p v w (Up n) (edge_mark ms) (rise_function bs))
       (λ m ms b bs t rest.
-      split p v w (Net n) [] (λ ms bs. MarkHolds p v w (Up n) (edge_mark (m ∷ ms)) (rise_function (b ∷ bs)))
+      first_and_rest p v w (Net n) [] (λ ms bs. MarkHolds p v w (Up n) (edge_mark (m ∷ ms)) (rise_function (b ∷ bs)))
       (λ m2 ms2 b2 bs2 t2 rest2.
       ended p v w (λ ms bs. MarkHolds p v w (Up n) (edge_mark (m ∷ m2 ∷ ms)) (rise_function (b ∷ b2 ∷ bs)))
       (record {
@@ -220,9 +222,9 @@ module _ (p : Parts) (inside : NodeId → Bool) (v w : Valuation) (event : List 
       → MarkHolds p v w (Down n) (edge_mark ms) (op_value word bs)
   falls n word ms bs e h =
       subst (λ (b : Bool). MarkHolds p v w (Down n) (edge_mark ms) b) (sym (computes p v w word fall_function (Net n ∷ Net n ∷ []) ms bs e h))
-      (split p v w (Net n) (Net n ∷ []) (λ ms bs. MarkHolds p v w (Down n) (edge_mark ms) (fall_function bs))
+      (first_and_rest p v w (Net n) (Net n ∷ []) (λ ms bs. MarkHolds p v w (Down n) (edge_mark ms) (fall_function bs))
       (λ m ms b bs t rest.
-      split p v w (Net n) [] (λ ms bs. MarkHolds p v w (Down n) (edge_mark (m ∷ ms)) (fall_function (b ∷ bs)))
+      first_and_rest p v w (Net n) [] (λ ms bs. MarkHolds p v w (Down n) (edge_mark (m ∷ ms)) (fall_function (b ∷ bs)))
       (λ m2 ms2 b2 bs2 t2 rest2.
       ended p v w (λ ms bs. MarkHolds p v w (Down n) (edge_mark (m ∷ m2 ∷ ms)) (fall_function (b ∷ b2 ∷ bs)))
       (record {
@@ -249,7 +251,7 @@ module _ (p : Parts) (inside : NodeId → Bool) (v w : Valuation) (event : List 
       → all_after ms ≡ true → op_value word bs ≡ flop_takes v w f
   takes e f word ms bs h a =
       computes p v w word (take_function f) (take_origin f).inputs ms bs h.0 h.1
-      ∙ split p v w (edge_of f.clock f.rise) (reset_subjects f.clear f.preset) (λ ms bs. all_after ms ≡ true → take_function f bs ≡ flop_takes v w f)
+      ∙ first_and_rest p v w (edge_of f.clock f.rise) (reset_subjects f.clear f.preset) (λ ms bs. all_after ms ≡ true → take_function f bs ≡ flop_takes v w f)
       (λ m ms b bs t rest a.
       ap (λ (c : Bool). take_function f (c ∷ bs)) (t.after (left _ _ a) ∙ edge_value f.clock f.rise)
       ∙ ap (λ (cs : List Bool). take_function f (has_edge v w f.clock f.rise ∷ cs)) (after_values p v w (λ (level : Level). level.net) (resets f.clear f.preset) ms bs rest (right _ _ a))
@@ -267,16 +269,12 @@ module _ (p : Parts) (inside : NodeId → Bool) (v w : Valuation) (event : List 
       → (next_mark ms).after ≡ true → op_value word bs ≡ flop_next v w f
   nexts f word ms bs h a =
       computes p v w word (next_function f) (next_origin f).inputs ms bs h.0 h.1
-      ∙ split p v w (Net f.feed) (reset_subjects f.clear f.preset) (λ ms bs. (next_mark ms).after ≡ true → next_function f bs ≡ flop_next v w f)
+      ∙ first_and_rest p v w (Net f.feed) (reset_subjects f.clear f.preset) (λ ms bs. (next_mark ms).after ≡ true → next_function f bs ≡ flop_next v w f)
       (λ m ms b bs t rest a.
       ap (λ (c : Bool). next_function f (c ∷ bs)) (t.before (left _ _ a))
       ∙ ap (λ (cs : List Bool). next_function f (v.net f.feed.place ∷ cs)) (after_values p v w (λ (level : Level). level.net) (resets f.clear f.preset) ms bs rest (right _ _ a))
       ∙ ap (λ (o : Option Bool). unwrap_or o (v.net f.feed.place)) (forced_is w f.clear f.preset))
       ms bs h.1 a
-
-  next_before : (ms : List Mark) → (next_mark ms).before ≡ false
-  next_before [] = refl
-  next_before (m ∷ ms) = refl
 
   of_next : (e : ElemId) (word : Op) (ms : List Mark) (bs : List Bool) (o : Option Flop) → flop_at p e.place ≡ o
       → IsMade word ms bs (option_map next_origin o)
@@ -289,9 +287,9 @@ module _ (p : Parts) (inside : NodeId → Bool) (v w : Valuation) (event : List 
       → (write_take_mark ms).after ≡ true → op_value word bs ≡ stores v w port
   write_takes port word ms bs h a =
       computes p v w word (write_take_function port) (write_take_origin port).inputs ms bs h.0 h.1
-      ∙ split p v w (edge_of port.clock port.rise) (Net port.enable.net ∷ []) (λ ms bs. (write_take_mark ms).after ≡ true → write_take_function port bs ≡ stores v w port)
+      ∙ first_and_rest p v w (edge_of port.clock port.rise) (Net port.enable.net ∷ []) (λ ms bs. (write_take_mark ms).after ≡ true → write_take_function port bs ≡ stores v w port)
       (λ m ms b bs t rest.
-      split p v w (Net port.enable.net) [] (λ ms bs. (write_take_mark (m ∷ ms)).after ≡ true → write_take_function port (b ∷ bs) ≡ stores v w port)
+      first_and_rest p v w (Net port.enable.net) [] (λ ms bs. (write_take_mark (m ∷ ms)).after ≡ true → write_take_function port (b ∷ bs) ≡ stores v w port)
       (λ m2 ms2 b2 bs2 t2 rest2.
       ended p v w (λ ms bs. (write_take_mark (m ∷ m2 ∷ ms)).after ≡ true → write_take_function port (b ∷ b2 ∷ bs) ≡ stores v w port)
       (λ a.
@@ -308,6 +306,34 @@ module _ (p : Parts) (inside : NodeId → Bool) (v w : Valuation) (event : List 
   of_write_take m k word ms bs (Some port) at h =
       record { before = λ a. tt; after = λ a. write_takes port word ms bs h a ∙ sym (ap (λ o. option_map_or (stores v w) o false) at) }
 
+  -- a read take gate shows whether the clock of its port has its edge
+  read_takes_edge : (clock : Edge) (word : Op) (ms : List Mark) (bs : List Bool) → IsMade word ms bs (read_take_origin (Some clock))
+      → (read_take_mark ms).after ≡ true → op_value word bs ≡ has_edge v w clock.net clock.rise
+  read_takes_edge clock word ms bs h a =
+      computes p v w word read_take_function (edge_of clock.net clock.rise ∷ []) ms bs h.0 h.1
+      ∙ first_and_rest p v w (edge_of clock.net clock.rise) [] (λ ms bs. (read_take_mark ms).after ≡ true → read_take_function bs ≡ has_edge v w clock.net clock.rise)
+      (λ m ms b bs t rest.
+      ended p v w (λ ms bs. (read_take_mark (m ∷ ms)).after ≡ true → read_take_function (b ∷ bs) ≡ has_edge v w clock.net clock.rise)
+      (λ a. t.after a ∙ edge_value clock.net clock.rise)
+      ms bs rest)
+      ms bs h.1 a
+
+  -- so it shows whether its port takes a word, where the port has a clock
+  read_taken : (port : ReadPort) (word : Op) (ms : List Mark) (bs : List Bool) (o : Option Edge) → port.clock ≡ o
+      → IsMade word ms bs (read_take_origin o)
+      → (read_take_mark ms).after ≡ true → op_value word bs ≡ read_takes v w port
+  read_taken port word ms bs None e h a = absurd h
+  read_taken port word ms bs (Some clock) e h a =
+      read_takes_edge clock word ms bs h a ∙ sym (ap (λ o. option_map_or (λ (clock : Edge). has_edge v w clock.net clock.rise) o false) e)
+
+  -- the gate of a subject that says whether a read port takes a word
+  of_read_take : (m : MemId) (k : ℕ) (word : Op) (ms : List Mark) (bs : List Bool) (o : Option ReadPort) → design_read p m.place k ≡ o
+      → IsMade word ms bs (option_and_then (λ port. read_take_origin port.clock) o)
+      → MarkHolds p v w (TakeRead m k) (read_take_mark ms) (op_value word bs)
+  of_read_take m k word ms bs None at h = absurd h
+  of_read_take m k word ms bs (Some port) at h =
+      record { before = λ a. tt; after = λ a. read_taken port word ms bs port.clock refl h a ∙ sym (ap (λ o. option_map_or (read_takes v w) o false) at) }
+
   -- the mark of a gate is true, whatever the subject of its output
   pub made_true : (what : Subject) (word : Op) (ms : List Mark) (bs : List Bool) → IsMade word ms bs (origin_of p what)
       → MarkHolds p v w what (gate_mark p (Some what) ms) (op_value word bs)
@@ -317,3 +343,5 @@ module _ (p : Parts) (inside : NodeId → Bool) (v w : Valuation) (event : List 
   made_true (Take e) word ms bs h = of_take e word ms bs (flop_at p e.place) refl h
   made_true (Next e) word ms bs h = of_next e word ms bs (flop_at p e.place) refl h
   made_true (TakeWrite m k) word ms bs h = of_write_take m k word ms bs (design_write p m.place k) refl h
+  made_true (Old m k b) word ms bs h = absurd h
+  made_true (TakeRead m k) word ms bs h = of_read_take m k word ms bs (design_read p m.place k) refl h

@@ -1,6 +1,10 @@
-pub mod Plain
 pub mod Tables
 pub mod Parallel
 pub mod Inputs
 pub mod GateMarks
 pub mod Through
+pub mod Given
+pub mod Groups
+pub mod FrameActions
+pub mod Chips
+pub mod Flights

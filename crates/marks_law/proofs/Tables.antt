@@ -3,9 +3,8 @@ use Rattle.std.proofs.Common.{◌≡◌, ℕ, zero, suc, ◌+◌, ◌*◌, ◌/�
 use Rattle.std.specs.Prelude.{◌==◌, flat_map}
 use Rattle.std.specs.Int.{bit_at}
 use Rattle.std.proofs.lemmas.Nat.Bits.{bit_at_lowest, bit_at-suc, bit_at-zero}
-use Rattle.std.proofs.lemmas.Bool.Decides.{nat_tests}
-use Rattle.design_core.specs.Operation.{op_value, number, bit, bit_of}
-use Rattle.emu_machine.specs.Origins.{rows, table_of}
+use Rattle.design_core.specs.Operation.{number, bit, bit_of}
+use Rattle.emu_machine.specs.Origins.{rows}
 use Rattle.marks_law.specs.Gates.{TablesAreFunctions}
 
 bit_small : (b : Bool) → bit b < 2

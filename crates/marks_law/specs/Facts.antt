@@ -1,5 +1,5 @@
--- What the laws of this crate take of the design alone, as premises: what `driver` names, and what an
--- event keeps. The rules are told in docs/RULES.md, "The design", "After an event" and "Groups and influence".
+-- Inside the laws of marks: what they take of the design alone, as premises: what `driver` names, and what
+-- an event keeps. The rules are told in docs/RULES.md, "The design", "After an event" and "Groups and influence".
 use Rattle.std.specs.Prelude.{◌≡◌, ◌<◌, ℕ, Bool, true, false, Some, List, slice_get, IsTrue}
 use Rattle.id_arena.specs.declared.keys.NetId.{NetId}
 use Rattle.id_arena.specs.declared.keys.ElemId.{ElemId}
@@ -22,12 +22,13 @@ use Rattle.emu_machine.specs.Mapped.{design_write}
 -- What `driver` names is there: an element that drives the net, and a net of the design. An input bit is
 -- driven by its port, and a read bit is a net of the design.
 pub record DriverFacts (p : Parts) : Type 0 where
-  pub element : (n : ℕ) (e : ElemId) → driver p n ≡ Elem e → (el : Element) × (slice_get p.elements e.place ≡ Some el) × (drives n el ≡ true)
+  pub element : (n : ℕ) (e : ElemId) → driver p n ≡ Elem e
+      → (element : Element) × (slice_get p.elements e.place ≡ Some element) × (drives n element ≡ true)
   pub in_range : (n : ℕ) (e : ElemId) → driver p n ≡ Elem e → n < net_count p
   pub inputs : (n : ℕ) → IsTrue (includes (port_bits p.inputs) n) → driver p n ≡ Input
-  pub read_bits : (m r b : ℕ) (memory : Memory) (port : ReadPort) (n : NetId)
-      → slice_get p.memories m ≡ Some memory → slice_get memory.reads r ≡ Some port → slice_get port.bits b ≡ Some n
-      → n.place < net_count p
+  pub read_bits : (mem read bit : ℕ) (memory : Memory) (port : ReadPort) (net : NetId)
+      → slice_get p.memories mem ≡ Some memory → slice_get memory.reads read ≡ Some port → slice_get port.bits bit ≡ Some net
+      → net.place < net_count p
 
 -- An event from `v` to `w`: both are settled, `w` is the valuation after the event, and what lies outside
 -- the influence does not change: nets keep their values, write ports store nothing, and they come first.
@@ -37,5 +38,7 @@ pub record EventFacts (p : Parts) (inside : NodeId → Bool) (v : Valuation) (ev
   pub stays_settled : IsSettled p w
   pub follows : IsAfter p v event w
   pub nets : (n : NetId) → n.place < net_count p → inside (Net n) ≡ false → w.net n.place ≡ v.net n.place
-  pub writes : (m : MemId) (k : ℕ) (port : WritePort) → design_write p m.place k ≡ Some port → inside (Write m k) ≡ false → stores v w port ≡ false
-  pub in_order : (m : MemId) (j k : ℕ) (port : WritePort) → j < k → design_write p m.place k ≡ Some port → inside (Write m k) ≡ false → inside (Write m j) ≡ false
+  pub writes : (mem : MemId) (k : ℕ) (port : WritePort) → design_write p mem.place k ≡ Some port → inside (Write mem k) ≡ false
+      → stores v w port ≡ false
+  pub in_order : (mem : MemId) (earlier later : ℕ) (port : WritePort) → earlier < later
+      → design_write p mem.place later ≡ Some port → inside (Write mem later) ≡ false → inside (Write mem earlier) ≡ false

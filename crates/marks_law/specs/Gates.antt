@@ -17,11 +17,13 @@ use Rattle.marks_law.specs.Truth.{SourcesTrue, NetsTrue, SubjectsStand}
 
 -- the table of a function gives for each list of inputs what the function gives
 abbrev pub TablesAreFunctions : Type 0
-TablesAreFunctions = (function : List Bool → Bool) (bits : List Bool) → op_value (table_of (length bits) function) bits ≡ function bits
+TablesAreFunctions =
+    (function : List Bool → Bool) (bits : List Bool) → op_value (table_of (length bits) function) bits ≡ function bits
 
 -- each gate of each chip is what the subject of its output says
 abbrev pub GatesFit : Parts → Results → Type 0
-GatesFit p r = (c k : ℕ) (gate : EmuGate) → slice_get (chip_at r.net c).gates k ≡ Some gate → gate_fits p r c gate ≡ true
+GatesFit p r =
+    (chip place : ℕ) (gate : EmuGate) → slice_get (chip_at r.net chip).gates place ≡ Some gate → gate_fits p r chip gate ≡ true
 
 -- Where each gate fits, marks that are true of what registers and read ports hold give marks that are true
 -- of what all nets show.

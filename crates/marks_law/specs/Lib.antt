@@ -1,3 +1,4 @@
 pub mod Facts
 pub mod Truth
 pub mod Gates
+pub mod Slots

@@ -30,12 +30,13 @@ IsTrueOf p v w (Some what) m value = MarkHolds p v w what m value
 
 -- the marks of what registers and read ports hold are true of what they hold
 abbrev pub SourcesTrue : Parts → Results → Valuation → Valuation → MarkState → State → Type 0
-SourcesTrue p r v w s x = (c n : ℕ) → IsTrueOf p v w (subject r c n) (s.on c n) (x.held c n)
+SourcesTrue p r v w s x = (chip net : ℕ) → IsTrueOf p v w (subject r chip net) (s.on chip net) (x.held chip net)
 
 -- the marks of all nets are true of what they show
 abbrev pub NetsTrue : Parts → Results → (NodeId → Bool) → Valuation → Valuation → MarkState → State → Type 0
-NetsTrue p r inside v w s x = (c n : ℕ) → IsTrueOf p v w (subject r c n) (net_mark p r inside s c n) (net_value r.net x c n)
+NetsTrue p r inside v w s x =
+    (chip net : ℕ) → IsTrueOf p v w (subject r chip net) (net_mark p r inside s chip net) (net_value r.net x chip net)
 
 -- each net of a chip that stands for a net stands for one that the design has
 abbrev pub SubjectsStand : Parts → Results → Type 0
-SubjectsStand p r = (c n : ℕ) (m : NetId) → subject r c n ≡ Some (Net m) → m.place < net_count p
+SubjectsStand p r = (chip net : ℕ) (named : NetId) → subject r chip net ≡ Some (Net named) → named.place < net_count p

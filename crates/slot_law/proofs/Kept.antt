@@ -9,7 +9,7 @@ use Rattle.emu_machine.specs.declared.schedule.Action.{Action}
 use Rattle.emu_machine.specs.State.{first_given}
 use Rattle.emu_machine.specs.Marks.{Mark}
 use Rattle.marks_law.specs.Truth.{IsTrueOf}
-use Rattle.agreement_law.proofs.Given.{none_given}
+use Rattle.marks_law.proofs.Given.{none_given}
 
 -- An action gives a net no mark and no value; or a mark that is true of the value that it gives; or, where
 -- its target is the net's register and keeps what it holds, a mark that is true of that.

@@ -1,8 +1,10 @@
 pub mod Targets
 pub mod Kept
-pub mod Flops
+pub mod Loads
+pub mod Takes
 pub mod Registers
 pub mod Memories
 pub mod Reading
 pub mod Writing
+pub mod Carrying
 pub mod Together

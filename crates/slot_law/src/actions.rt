@@ -1,6 +1,6 @@
 //! What the actions of a slot make of true marks.
 
-ghost use Rattle.agreement_law.specs.Slots.{SlotKeepsMarks};
+ghost use Rattle.marks_law.specs.Slots.{SlotKeepsMarks};
 
 /// Every slot whose actions fit keeps true marks true.
 pub fn slot_keeps_marks()

@@ -1,4 +1,4 @@
--- The groups that have a frame, of which each names inputs of the design alone.
+-- Offered to the crates above: the groups that have a frame, of which each names inputs of the design alone.
 use Rattle.std.proofs.Common.{◌≡◌, ℕ, true, false, refl, subst, inl, inr}
 use Rattle.std.specs.Prelude.{Option, Some, None, slice_get, codes}
 use Rattle.std.specs.Option.{option_map_or}
@@ -8,15 +8,15 @@ use Rattle.design_core.specs.Design.{driver, port_bits, includes, is_net}
 use Rattle.design_core.specs.Influence.{Group, all_groups, IsGroup}
 use Rattle.emu_machine.specs.Acceptance.{Case, is_in_group}
 use Rattle.emu_machine.specs.Law.{IsCase}
-use Rattle.marks_law.proofs.Plain.{no}
-use Rattle.history_law.proofs.Lists.{any_at}
+use Rattle.facts.proofs.Tests.{no}
+use Rattle.facts.proofs.Lists.{any_at}
 use Rattle.history_law.proofs.Naming.{input_bit_is_input}
-use Rattle.agreement_law.proofs.Places.{any_found, contains_at, at_contains, at_last}
+use Rattle.facts.proofs.Places.{any_found, contains_at, at_contains, at_last}
 
 abbrev all_inputs : Parts → Group
 all_inputs p = record { name = codes "*"; nets = port_bits p.inputs }
 
-pub groups_are : (c : Case) (k : ℕ) (g : Group) → IsCase c → slice_get (all_groups c.design c.groups) k ≡ Some g → IsGroup c.design g
+groups_are : (c : Case) (k : ℕ) (g : Group) → IsCase c → slice_get (all_groups c.design c.groups) k ≡ Some g → IsGroup c.design g
 groups_are c k g is at =
     elim (at_last c.groups (all_inputs c.design) k g at) [
       | inl h ↦ is.groups k g h
@@ -35,5 +35,5 @@ in_group c k n is None e h = no h
 in_group c k n is (Some g) e h = named_input c n is g (groups_are c k g is e) h
 
 -- a net of a group is driven from outside
-pub group_net_is_input : (c : Case) (k n : ℕ) → IsCase c → is_in_group c k n ≡ true → driver c.design n ≡ driven.Input
+pub group_net_is_input : (c : Case) (group net : ℕ) → IsCase c → is_in_group c group net ≡ true → driver c.design net ≡ driven.Input
 group_net_is_input c k n is h = in_group c k n is (slice_get (all_groups c.design c.groups) k) refl h
