@@ -1,1 +1,2 @@
+pub mod Latencies
 mod OneAnswer

@@ -1,14 +1,16 @@
 -- A text has one answer: the answers of the reader exclude one another.
-use Rattle.std.proofs.Common.{◌≡◌, ℕ, ◌<◌, true, false, List, length, Some, None, Ok, Err, refl, sym, ap, subst, ◌∙◌, arith}
+use Rattle.std.proofs.Common.{◌≡◌, ℕ, ◌<◌, true, false, List, length, Option, Some, None, Ok, Err, refl, sym, ap, subst, ◌∙◌, arith}
+use Rattle.std.specs.Prelude.{option_and_then, codes}
 use Rattle.std.proofs.lemmas.Option.{slice_get_within, same_Some}
 use Rattle.serde_json.specs.Data.{Data}
 use Rattle.serde_json.specs.Read.{read}
 use Rattle.json_members.specs.JsonText.{IsTextOf, IsNoJson}
+use Rattle.json_members.specs.Members.{each, array_member}
 use Rattle.id_arena.specs.declared.wire.Wire.{Wire}
 use Rattle.board_model.specs.declared.fault.BoardFault.TheVariants.{NotJson, BadShape, Version, Limit, BadWire, NoMemory}
 use Rattle.id_arena.specs.BoardPlan.{BoardPlan}
 use Rattle.board_model.specs.Sound.{IsWithinLimits, IsFirstBadWire, IsSound, joins}
-use Rattle.board_model.specs.Form.{HasForm}
+use Rattle.board_model.specs.Form.{HasForm, is_known, wire_of}
 use Rattle.board_model.specs.Answers.{Says, HasBadShape, HasOtherVersion, StandsFor, IsBeyondLimits, HasBadWire, EachTextHasOneAnswer}
 
 same_tree : (bytes : List ℕ) (t u : Data) → IsTextOf bytes t → IsTextOf bytes u → t ≡ u
@@ -20,10 +22,15 @@ same_version t v w p q a b = same_Some v w (sym a.version ∙ b.version)
 abbrev plan : List ℕ → List Wire → ℕ → BoardPlan
 plan rooms wires slots = record { rooms = rooms; wires = wires; slots = slots }
 
+-- the wires of a tree in a version
+abbrev wires_of : Data → ℕ → Option (List Wire)
+wires_of t version = option_and_then (each (wire_of version)) (array_member (codes "wires") t)
+
 same_plan : (t : Data) (v w : ℕ) (p q : BoardPlan) → HasForm t v p → HasForm t w q → p ≡ q
 same_plan t v w p q a b =
     let rooms : p.rooms ≡ q.rooms = same_Some _ _ (sym a.chips ∙ b.chips) in
-    let wires : p.wires ≡ q.wires = same_Some _ _ (sym a.wires ∙ b.wires) in
+    let told : v ≡ w = same_version t v w p q a b in
+    let wires : p.wires ≡ q.wires = same_Some _ _ (sym (subst (λ n. wires_of t n ≡ Some p.wires) told a.wires) ∙ b.wires) in
     let slots : p.slots ≡ q.slots = same_Some _ _ (sym a.slots ∙ b.slots) in
     ap (λ (r : List ℕ). plan r p.wires p.slots) rooms ∙ ap (λ (w : List Wire). plan q.rooms w p.slots) wires ∙ ap (plan q.rooms q.wires) slots
 
@@ -32,7 +39,7 @@ moved bytes t u v p a b h = subst (λ d. HasForm d v p) (same_tree bytes t u a b
 
 says_same : (bytes : List ℕ) (p q : BoardPlan) → Says bytes p → Says bytes q → p ≡ q
 says_same bytes p q a b =
-    same_plan b.tree 1 1 p q (moved bytes a.tree b.tree 1 p a.text b.text a.form) b.form
+    same_plan b.tree a.version b.version p q (moved bytes a.tree b.tree a.version p a.text b.text a.form) b.form
 
 no_json : (bytes : List ℕ) (t : Data) → IsNoJson bytes → IsTextOf bytes t → ⊥
 no_json bytes t n a = let e : read bytes ≡ None = n a.utf8 in let f : read bytes ≡ Some t = a.reads in cc
@@ -42,7 +49,10 @@ bad_shape bytes t v p s a h = s.shape v p (moved bytes t s.tree v p a s.text h)
 
 other_version : (bytes : List ℕ) (p : BoardPlan) → HasOtherVersion bytes → Says bytes p → ⊥
 other_version bytes p o s =
-    o.other (same_version s.tree o.version 1 o.plan p (moved bytes o.tree s.tree o.version o.plan o.text s.text o.form) s.form)
+    let same : o.version ≡ s.version = same_version s.tree o.version s.version o.plan p (moved bytes o.tree s.tree o.version o.plan o.text s.text o.form) s.form in
+    let known : is_known s.version ≡ true = s.known in
+    let unknown : is_known s.version ≡ false = subst (λ v. is_known v ≡ false) same o.other in
+    cc
 
 beyond : (bytes : List ℕ) (p : BoardPlan) → IsBeyondLimits bytes → Says bytes p → IsWithinLimits p → ⊥
 beyond bytes p b s w = b.beyond (subst IsWithinLimits (says_same bytes p b.plan s b.says) w)

@@ -1,5 +1,5 @@
--- What the steps of the reader answer.
-use Rattle.std.specs.Prelude.{◌≡◌, ◌≢◌, ℕ, List, Option, Some, None, Result, Ok, Err}
+-- Inside the reader: what its steps answer.
+use Rattle.std.specs.Prelude.{◌≡◌, ℕ, true, false, List, Option, Some, None, Result, Ok, Err}
 use Rattle.serde_json.specs.Data.{Data, Items}
 use Rattle.json_members.specs.Members.{each}
 use Rattle.board_model.specs.declared.fault.BoardFault.{BoardFault}
@@ -7,7 +7,7 @@ use Rattle.board_model.specs.declared.fault.BoardFault.TheVariants.{NotJson, Bad
 use Rattle.board_model.specs.declared.form.BoardForm.{BoardForm}
 use Rattle.id_arena.specs.BoardPlan.{BoardPlan}
 use Rattle.board_model.specs.Sound.{IsSound, IsWithinLimits, IsFirstBadWire}
-use Rattle.board_model.specs.Form.{HasForm}
+use Rattle.board_model.specs.Form.{HasForm, is_known}
 
 -- the numbers of a form as a plan
 abbrev pub plan_of : BoardForm → BoardPlan
@@ -35,11 +35,11 @@ FormAnswers tree (Err (BadWire wire)) = ⊥
 
 -- the board of a form, or the first fault in its numbers
 abbrev pub Judges : BoardForm → Result BoardPlan BoardFault → Type 0
-Judges form (Ok plan) = (form.version ≡ 1) × (plan ≡ plan_of form) × IsSound plan
-Judges form (Err Version) = form.version ≢ 1
-Judges form (Err Limit) = (form.version ≡ 1) × ¬ IsWithinLimits (plan_of form)
+Judges form (Ok plan) = (is_known form.version ≡ true) × (plan ≡ plan_of form) × IsSound plan
+Judges form (Err Version) = is_known form.version ≡ false
+Judges form (Err Limit) = (is_known form.version ≡ true) × ¬ IsWithinLimits (plan_of form)
 Judges form (Err (BadWire wire)) =
-    (form.version ≡ 1) × IsWithinLimits (plan_of form) × IsFirstBadWire (plan_of form) wire.place
+    (is_known form.version ≡ true) × IsWithinLimits (plan_of form) × IsFirstBadWire (plan_of form) wire.place
 Judges form (Err NotJson) = ⊥
 Judges form (Err BadShape) = ⊥
 Judges form (Err NoMemory) = ⊥

@@ -1,11 +1,11 @@
 //! The board and its readers.
-ghost use Rattle.std.specs.Prelude.{◌≡◌, ◌≢◌, ◌<◌, ◌≤◌, Some, length, slice_get};
+ghost use Rattle.std.specs.Prelude.{◌≡◌, ◌≢◌, ◌<◌, ◌≤◌, Some, length, option_map, slice_get};
 
 use emu_io::List;
 use id_arena::{ChipId, Key, Wire, WireId};
 use std::marker::Model;
 
-/// A board whose counts are within their limits and whose wires each join two different chips.
+/// A board whose numbers are within their limits and whose wires each join two different chips.
 #[derive(Debug, Drop)]
 pub struct Board {
     rooms: List<u64>,
@@ -68,14 +68,26 @@ impl Board {
     /// The chips that a wire goes from and to: two different chips of the board.
     pub fn ends(&self, wire: WireId) -> (ChipId, ChipId)
         requires { wire.place < length self.now.wires }
-        ensures ends { slice_get self.now.wires wire.place
-            ≡ Some (record { from = result.0.place; to = result.1.place }) }
+        ensures ends { option_map (λ ends. (ends.from, ends.to)) (slice_get self.now.wires wire.place)
+            ≡ Some result }
         ensures from_chip { result.0.place < length self.now.rooms }
         ensures to_chip { result.1.place < length self.now.rooms }
         ensures apart { result.0.place ≢ result.1.place }
     {
         let ends = self.wires.get(u64::from(wire.place()));
-        (ChipId::of(ends.from), ChipId::of(ends.to))
+        (ends.from, ends.to)
+    }
+
+    /// For how many slots a wire carries what is sent, 1 to 8: it arrives at the end of the last of
+    /// these, and the send's own slot is the first.
+    pub fn latency(&self, wire: WireId) -> u32
+        requires { wire.place < length self.now.wires }
+        ensures latency { option_map (λ ends. ends.latency) (slice_get self.now.wires wire.place)
+            ≡ Some result }
+        ensures some { 0 < result }
+        ensures few { result ≤ 8 }
+    {
+        self.wires.get(u64::from(wire.place())).latency
     }
 
     /// The most slots that a frame may have, 1 to 65,535.

@@ -10,9 +10,9 @@ pub enum BoardFault {
     NotJson,
     /// A member is missing or of another form, the version's included.
     BadShape,
-    /// The version is not 1.
+    /// The version is neither 1 nor 2.
     Version,
-    /// The number of chips, of wires or of slots is outside its limits.
+    /// The number of chips, of wires or of slots, or the latency of a wire, is outside its limits.
     Limit,
     /// The first wire whose ends are not two different chips.
     BadWire { wire: WireId },

@@ -1,12 +1,12 @@
 //! From a JSON tree to the numbers of a board, not yet judged.
 ghost use Rattle.std.specs.Prelude.{◌≡◌};
 ghost use Rattle.serde_json.specs.View.{view, items_view};
-ghost use Rattle.board_model.specs.Form.{room_of, wire_of};
+ghost use Rattle.board_model.specs.Form.{latency_of, room_of, wire_of};
 ghost use Rattle.board_model.specs.FormAnswers.{FormAnswers, ListAnswers};
 
 use crate::fault::BoardFault;
 use emu_io::List;
-use id_arena::Wire;
+use id_arena::{ChipId, Key, Wire};
 use json_members::{array_member, number_member, word_member};
 use serde_json::Value;
 use std::alloc::Global;
@@ -40,7 +40,7 @@ pub(crate) fn read_form(alloc: Global, tree: &Value) -> Result<BoardForm, BoardF
         return Err(BoardFault::BadShape);
     };
     let rooms = read_rooms(alloc, chips)?;
-    let wires = read_wires(alloc, ends)?;
+    let wires = read_wires(alloc, ends, version)?;
     Ok(BoardForm {
         version,
         rooms,
@@ -63,13 +63,13 @@ fn read_rooms(alloc: Global, chips: &[Value]) -> Result<List<u64>, BoardFault>
     Ok(rooms)
 }
 
-/// The ends of the wires.
-fn read_wires(alloc: Global, ends: &[Value]) -> Result<List<Wire>, BoardFault>
-    ensures { ListAnswers wire_of (items_view ends.now) result }
+/// The wires of a board of this version.
+fn read_wires(alloc: Global, ends: &[Value], version: u32) -> Result<List<Wire>, BoardFault>
+    ensures { ListAnswers (wire_of version) (items_view ends.now) result }
 {
     let mut wires = List::new(alloc);
     'wires: for tree in ends {
-        let Some(wire) = read_wire(tree) else {
+        let Some(wire) = read_wire(tree, version) else {
             return Err(BoardFault::BadShape);
         };
         wires.push(wire)?;
@@ -77,11 +77,27 @@ fn read_wires(alloc: Global, ends: &[Value]) -> Result<List<Wire>, BoardFault>
     Ok(wires)
 }
 
-/// The ends of one wire.
-fn read_wire(tree: &Value) -> Option<Wire>
-    ensures { result ≡ wire_of (view tree.now) }
+/// One wire.
+fn read_wire(tree: &Value, version: u32) -> Option<Wire>
+    ensures { result ≡ wire_of version (view tree.now) }
 {
     let from = word_member(tree, "from")?;
     let to = word_member(tree, "to")?;
-    Some(Wire { from, to })
+    let latency = read_latency(tree, version)?;
+    Some(Wire {
+        from: ChipId::of(from),
+        to: ChipId::of(to),
+        latency,
+    })
+}
+
+/// The latency of one wire, which is told in version 2 alone.
+fn read_latency(tree: &Value, version: u32) -> Option<u32>
+    ensures { result ≡ latency_of version (view tree.now) }
+{
+    if version == 2 {
+        word_member(tree, "latency")
+    } else {
+        Some(1)
+    }
 }

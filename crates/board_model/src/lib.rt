@@ -1,7 +1,7 @@
 //! The board: chips with their rooms, the wires between them, and the most slots of a frame.
 //!
 //! `read_board` gives the board that a text stands for, or the first fault of the text, exactly.
-//! Every `Board` has its counts within the limits, and each of its wires joins two of its chips;
+//! Every `Board` has its numbers within the limits, and each of its wires joins two of its chips;
 //! its readers take no memory.
 #![tactic(auto)]
 

@@ -1,8 +1,9 @@
 //! From a text to a board, or to the first fault.
 ghost use Rattle.std.specs.Prelude.{◌≡◌, ◌↔◌, IsTrue, MatchOption, length};
+ghost use Rattle.std.specs.List.{list_all};
 ghost use Rattle.board_model.specs.Answers.{Answers, EachTextHasOneAnswer};
 ghost use Rattle.id_arena.specs.BoardPlan.{BoardPlan};
-ghost use Rattle.board_model.specs.Sound.{IsWithinLimits, IsFirstBadWire, FirstWiresJoin, joins};
+ghost use Rattle.board_model.specs.Sound.{IsWithinLimits, IsFirstBadWire, FirstWiresJoin, joins, latency_is_within};
 ghost use Rattle.board_model.specs.FormAnswers.{plan_of, Judges};
 
 use crate::board::Board;
@@ -18,12 +19,16 @@ const MOST_CHIPS: u64 = 16;
 /// The most wires of a board.
 const MOST_WIRES: u64 = 4096;
 
+/// The greatest latency of a wire, in slots.
+const MOST_LATENCY: u32 = 8;
+
 /// The most slots of a frame.
 const MOST_SLOTS: u32 = 65_535;
 
 /// The board that a text stands for:
-/// `{"version":1,"chips":[{"room":100}],"wires":[{"from":0,"to":1}],"slots":64}`. Other members are
-/// passed over, and of members named twice the last counts. A refusal names the first fault.
+/// `{"version":2,"chips":[{"room":8},{"room":40}],"wires":[{"from":1,"to":0,"latency":2}],"slots":16}`. In
+/// version 1 each latency is 1, whatever the wires tell of it. Other members are passed over, and of
+/// members named twice the last counts. A refusal names the first fault.
 pub fn read_board(alloc: Global, bytes: &[u8]) -> Result<Board, BoardFault>
     ensures { Answers bytes.now result }
 {
@@ -41,7 +46,7 @@ pub fn each_text_has_one_answer()
 fn judge(form: BoardForm) -> Result<Board, BoardFault>
     ensures { Judges form result }
 {
-    if form.version != 1 {
+    if form.version != 1 && form.version != 2 {
         return Err(BoardFault::Version);
     }
     if !is_within_limits(&form) {
@@ -53,7 +58,7 @@ fn judge(form: BoardForm) -> Result<Board, BoardFault>
     Ok(Board::from_parts(form.rooms, form.wires, form.slots))
 }
 
-/// Whether the counts are within the limits.
+/// Whether the numbers are within the limits.
 fn is_within_limits(form: &BoardForm) -> bool
     ensures { IsTrue result ↔ IsWithinLimits (plan_of form.now) }
 {
@@ -61,8 +66,28 @@ fn is_within_limits(form: &BoardForm) -> bool
     0 < chips
         && chips <= MOST_CHIPS
         && form.wires.len() <= MOST_WIRES
+        && latencies_are_within(form.wires.as_slice())
         && 0 < form.slots
         && form.slots <= MOST_SLOTS
+}
+
+/// Whether each latency is within the limits.
+fn latencies_are_within(wires: &[Wire]) -> bool
+    ensures { result ≡ list_all latency_is_within wires.now }
+{
+    'wires: for wire in wires {
+        if !latency_is_within(wire) {
+            return false;
+        }
+    }
+    true
+}
+
+/// Whether a wire has a latency within the limits.
+fn latency_is_within(wire: &Wire) -> bool
+    ensures { result ≡ latency_is_within wire.now }
+{
+    1 <= wire.latency && wire.latency <= MOST_LATENCY
 }
 
 /// The first wire that does not join two different chips.
@@ -85,5 +110,6 @@ fn first_bad_wire(form: &BoardForm) -> Option<WireId>
 fn joins(chips: u64, wire: &Wire) -> bool
     ensures { result ≡ joins chips wire.now }
 {
-    u64::from(wire.from) < chips && u64::from(wire.to) < chips && wire.from != wire.to
+    let (from, to) = (wire.from.place(), wire.to.place());
+    u64::from(from) < chips && u64::from(to) < chips && from != to
 }

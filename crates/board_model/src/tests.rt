@@ -4,7 +4,7 @@ use id_arena::{ChipId, Key, WireId};
 use std::test::Fail;
 
 /// Texts that are no boards, each with its first fault.
-static FAULTS: [(&str, BoardFault); 20] = [
+static FAULTS: [(&str, BoardFault); 26] = [
     ("{\"version\":1", BoardFault::NotJson),
     ("nul", BoardFault::NotJson),
     (
@@ -79,6 +79,32 @@ static FAULTS: [(&str, BoardFault); 20] = [
             wire: WireId { place: 0 },
         },
     ),
+    (
+        "{\"version\":2,\"chips\":[],\"wires\":[{\"from\":0,\"to\":1}],\"slots\":1}",
+        BoardFault::BadShape,
+    ),
+    (
+        "{\"version\":2,\"chips\":[{\"room\":1},{\"room\":1}],\"wires\":[{\"from\":0,\"to\":1,\"latency\":3.0}],\"slots\":1}",
+        BoardFault::BadShape,
+    ),
+    (
+        "{\"version\":3,\"chips\":[],\"wires\":[{\"from\":0,\"to\":1}],\"slots\":1}",
+        BoardFault::Version,
+    ),
+    (
+        "{\"version\":2,\"chips\":[{\"room\":1},{\"room\":1}],\"wires\":[{\"from\":0,\"to\":0,\"latency\":1},{\"from\":0,\"to\":1,\"latency\":9}],\"slots\":1}",
+        BoardFault::Limit,
+    ),
+    (
+        "{\"version\":2,\"chips\":[{\"room\":1},{\"room\":1}],\"wires\":[{\"from\":0,\"to\":1,\"latency\":0}],\"slots\":1}",
+        BoardFault::Limit,
+    ),
+    (
+        "{\"version\":2,\"chips\":[{\"room\":1},{\"room\":1}],\"wires\":[{\"from\":0,\"to\":1,\"latency\":8},{\"from\":1,\"to\":1,\"latency\":1}],\"slots\":1}",
+        BoardFault::BadWire {
+            wire: WireId { place: 1 },
+        },
+    ),
 ];
 
 #[test]
@@ -127,6 +153,24 @@ fn reads_a_board(rt: HostRuntime) -> Result<(), Fail> {
             board.ends(WireId::of(wire)),
             (ChipId::of(from), ChipId::of(to))
         );
+        assert_eq!(rt; board.latency(WireId::of(wire)), 1);
+    }
+    Ok(())
+}
+
+#[test]
+fn reads_latencies_in_version_two_alone(rt: HostRuntime) -> Result<(), Fail> {
+    for (version, first, second) in [(1, 1, 1), (2, 3, 8)] {
+        let text = format!(in rt.alloc();
+            "{{\"version\":{version},\"chips\":[{{\"room\":1}},{{\"room\":2}}],\"wires\":[{{\"from\":0,\"to\":1,\"latency\":3}},{{\"from\":1,\"to\":0,\"latency\":8}}],\"slots\":4}}"
+        )?;
+        let Ok(board) = read_board(rt.alloc(), text.as_bytes()) else {
+            assert!(rt; false, "refused {text}");
+            return Ok(());
+        };
+        assert_eq!(rt; board.wires(), 2);
+        assert_eq!(rt; board.latency(WireId::of(0)), first);
+        assert_eq!(rt; board.latency(WireId::of(1)), second);
     }
     Ok(())
 }

@@ -1,13 +1,13 @@
 -- What follows of a fault, and of there being none.
 use Rattle.std.proofs.Common.{◌≡◌, ℕ, List, Bool, true, false, Option, Some, None, Result, Ok, Err, ap, sym, refl, length}
-use Rattle.std.specs.Prelude.{if◌then◌else◌, not, is_some, option_and_then, codes}
+use Rattle.std.specs.Prelude.{if◌then◌else◌, not, is_some, option_and_then, option_map, codes}
 use Rattle.id_arena.specs.Names.{place_among}
 use Rattle.serde_json.specs.Data.{Data}
-use Rattle.cell_table.specs.Members.{items_at}
+use Rattle.json_members.specs.Members.{array_member, data_of}
 use Rattle.cell_table.specs.Faults.{written_fault, fault_beside}
 use Rattle.cell_table.specs.Judge.{tables_are_sized, is_within_limits}
 use Rattle.cell_table.specs.Kinds.{written_of}
-use Rattle.cell_table.specs.Pins.{has_twice, pins_of}
+use Rattle.cell_table.specs.Pins.{stands_twice, pins_of, shared_pins}
 use Rattle.cell_table.specs.Table.{version_of, IsFirstFault, ListStands, ValueStands}
 use Rattle.cell_table.specs.declared.cell.Cell.{Cell}
 use Rattle.cell_table.specs.declared.fault.CellFault.{CellFault}
@@ -30,10 +30,10 @@ not_there None h = refl
 not_there (Some n) h = absurd (cc)
 
 -- what holds of a cell without fault
-pub sound_cell : (names : List (List ℕ)) (written : WrittenCell) → written_fault names written ≡ None → (tables_are_sized written.kind ≡ true) × (is_within_limits written.kind ≡ true) × (place_among names written.name ≡ None)
+pub sound_cell : (version : ℕ) (names : List (List ℕ)) (written : WrittenCell) → written_fault version names written ≡ None → (tables_are_sized written.kind ≡ true) × (is_within_limits written.kind ≡ true) × (place_among names written.name ≡ None)
 unfolding written_fault
-sound_cell names written none =
-    let tests = no_fault (has_twice (pins_of written.kind)) (tables_are_sized written.kind) (is_within_limits written.kind) (is_some (place_among names written.name)) (length names) none in
+sound_cell version names written none =
+    let tests = no_fault (stands_twice (pins_of version written.kind) (shared_pins version written.kind)) (tables_are_sized written.kind) (is_within_limits written.kind) (is_some (place_among names written.name)) (length names) none in
     (tests.0, tests.1, not_there (place_among names written.name) tests.2)
 
 -- the cell that a fault speaks of
@@ -54,25 +54,25 @@ first_concerns false true false taken k fault is = sym (ap (option_and_then conc
 first_concerns false true true true k fault is = sym (ap (option_and_then concerns) is)
 first_concerns false true true false k fault is = absurd (cc)
 
-beside_concerns : (names : List (List ℕ)) (o : Option WrittenCell) (fault : CellFault) → fault_beside names o ≡ Some fault → concerns fault ≡ Some (length names)
+beside_concerns : (version : ℕ) (names : List (List ℕ)) (o : Option WrittenCell) (fault : CellFault) → fault_beside version names o ≡ Some fault → concerns fault ≡ Some (length names)
 unfolding written_fault
-beside_concerns names None fault is = sym (ap (option_and_then concerns) is)
-beside_concerns names (Some written) fault is =
-    first_concerns (has_twice (pins_of written.kind)) (tables_are_sized written.kind) (is_within_limits written.kind) (is_some (place_among names written.name)) (length names) fault is
+beside_concerns version names None fault is = sym (ap (option_and_then concerns) is)
+beside_concerns version names (Some written) fault is =
+    first_concerns (stands_twice (pins_of version written.kind) (shared_pins version written.kind)) (tables_are_sized written.kind) (is_within_limits written.kind) (is_some (place_among names written.name)) (length names) fault is
 
 -- the first fault of a list is that of a cell
-some_cell : (ds : List Data) (fault : CellFault) → IsFirstFault ds fault → concerns fault ≡ None → ⊥
-some_cell ds fault first none = let some = beside_concerns _ (written_of first.faulty) fault first.is in cc
+some_cell : (version : ℕ) (ds : List Data) (fault : CellFault) → IsFirstFault version ds fault → concerns fault ≡ None → ⊥
+some_cell version ds fault first none = let some = beside_concerns version _ (written_of version first.faulty) fault first.is in cc
 
 -- what a list of cells stands for, its table does
-pub value_stands : (d : Data) (ds : List Data) (result : Result (List Cell) CellFault) → version_of d ≡ Some 1 → items_at (codes "cells") d ≡ Some ds → ListStands ds result → ValueStands d result
-value_stands d ds (Ok cells) version items stands = (ds, record { version = version; items = items }, stands)
-value_stands d ds (Err NotJson) version items stands = some_cell ds NotJson stands refl
-value_stands d ds (Err Version) version items stands = absurd (some_cell ds Version stands refl)
-value_stands d ds (Err (BadShape None)) version items stands = absurd (some_cell ds (BadShape None) stands refl)
-value_stands d ds (Err (BadShape (Some k))) version items stands = (ds, record { version = version; items = items }, stands)
-value_stands d ds (Err (PinTwice k)) version items stands = (ds, record { version = version; items = items }, stands)
-value_stands d ds (Err (TableSize k)) version items stands = (ds, record { version = version; items = items }, stands)
-value_stands d ds (Err (Limit k)) version items stands = (ds, record { version = version; items = items }, stands)
-value_stands d ds (Err (CellTwice k)) version items stands = (ds, record { version = version; items = items }, stands)
-value_stands d ds (Err NoMemory) version items stands = tt
+pub value_stands : (d : Data) (version : ℕ) (ds : List Data) (result : Result (List Cell) CellFault) → version_of d ≡ Some version → option_map data_of (array_member (codes "cells") d) ≡ Some ds → ListStands version ds result → ValueStands d result
+value_stands d version ds (Ok cells) told items stands = (version, ds, record { version_is = told; items = items }, stands)
+value_stands d version ds (Err NotJson) told items stands = some_cell version ds NotJson stands refl
+value_stands d version ds (Err Version) told items stands = absurd (some_cell version ds Version stands refl)
+value_stands d version ds (Err (BadShape None)) told items stands = absurd (some_cell version ds (BadShape None) stands refl)
+value_stands d version ds (Err (BadShape (Some k))) told items stands = (version, ds, record { version_is = told; items = items }, stands)
+value_stands d version ds (Err (PinTwice k)) told items stands = (version, ds, record { version_is = told; items = items }, stands)
+value_stands d version ds (Err (TableSize k)) told items stands = (version, ds, record { version_is = told; items = items }, stands)
+value_stands d version ds (Err (Limit k)) told items stands = (version, ds, record { version_is = told; items = items }, stands)
+value_stands d version ds (Err (CellTwice k)) told items stands = (version, ds, record { version_is = told; items = items }, stands)
+value_stands d version ds (Err NoMemory) told items stands = tt

@@ -1,7 +1,7 @@
-use Rattle.std.proofs.Common.{◌≡◌, ◌==◌, ◌^◌, ◌<◌, ◌≤◌, ℕ, zero, suc, List, [], ◌∷◌, Bool, true, false, length, drop, get_or, refl, arith, length-drop, drop-cons, lit<}
-use Rattle.std.specs.Prelude.{◌&&◌}
+use Rattle.std.proofs.Common.{◌≡◌, ◌==◌, ◌^◌, ◌<◌, ◌≤◌, ℕ, zero, suc, List, [], ◌∷◌, Bool, true, false, length, drop, get_or, arith, length-drop, drop-cons, lit<}
 use Rattle.std.proofs.Math.Nat.{pow-le-pow_right, one-le-pow, pow-suc}
 use Rattle.std.proofs.lemmas.Bool.Decides.{nat_tests}
+use Rattle.facts.proofs.Tests.{left}
 use Rattle.cell_table.specs.Build.{number_of}
 use Rattle.cell_table.specs.Judge.{is_sized, outs_are_sized}
 use Rattle.cell_table.specs.declared.written.WrittenOut.{WrittenOut}
@@ -25,15 +25,11 @@ sized_is_short inputs table sized within =
     let few : 2 ^ inputs ≤ 2 ^ 6 = power-le inputs 6 within in
     omega arith
 
-and-left : (a b : Bool) → (a && b) ≡ true → a ≡ true
-and-left true b both = refl
-and-left false b both = cc
-
 -- of sized outputs from a place on, the one at the place is sized
 pub output_is_short : (inputs : ℕ) (outputs : List WrittenOut) (at : ℕ) (output : WrittenOut) → output ≡ get_or outputs at output → at < length outputs → outs_are_sized inputs (drop at outputs) ≡ true → inputs ≤ 6 → length output.table ≤ 64
 output_is_short inputs outputs at output there within sized few =
     let parts = rw (drop-cons outputs at output, ← there) at sized in
-    sized_is_short inputs output.table (and-left _ _ parts) few
+    sized_is_short inputs output.table (left _ _ parts) few
 
 -- so many bits make a number below this power of two
 pub number_of-below : (n : ℕ) (bits : List Bool) → length bits ≤ n → number_of bits < 2 ^ n

@@ -1,12 +1,14 @@
 use Rattle.std.proofs.Common.{◌≡◌, ◌<◌, ◌+◌, ℕ, List, [], ◌∷◌, ◌++◌, Bool, true, false, sym, refl, map, take, drop, length, get_or, cond, not, subst}
 use Rattle.std.specs.Prelude.{bytes_eq, ◌||◌}
 use Rattle.std.specs.Borrow.{Bor}
+use Rattle.std.specs.HashSet.{HashSet, contains}
 use Rattle.std.specs.List.{list_any}
 use Rattle.std.proofs.lemmas.Bool.Decides.{same_from_decides}
 use Rattle.std.proofs.lemmas.List.{take_more, take-append-drop, map-append}
 use Rattle.std.proofs.lemmas.List.Folds.{list_any-append}
 use Rattle.std.proofs.lemmas.Slice.Eq.{bytes_eq-Decides}
-use Rattle.cell_table.specs.Pins.{has_twice}
+use Rattle.cell_table.specs.Pins.{has_twice, stands_twice}
+use Rattle.cell_table.specs.Seen.{is_seen}
 
 -- the bytes behind references
 abbrev pub texts : List (Bor (List ℕ)) → List (List ℕ)
@@ -82,3 +84,18 @@ pub seen_more : (names : List (Bor (List ℕ))) (i : ℕ) (d : Bor (List ℕ)) (
 seen_more names i d q within =
     rw (take_more names i d within, map-append, list_any-append, or-false, bytes_eq-swapped q (get_or names i d).now)
     (or-cond (list_any (bytes_eq q) (texts (take i names))) (bytes_eq (get_or names i d).now q))
+
+-- a pin that stands twice by itself does so whatever is shared
+pub twice_anyway : (pins shared : List (List ℕ)) → has_twice pins ≡ true → true ≡ stands_twice pins shared
+twice_anyway pins shared twice = rw twice refl
+
+-- where the seen pins are these, the shared ones that were seen are those that stand among these
+among_seen : {S : Type 0} (pins shared : List (List ℕ)) (seen : HashSet (Bor (List ℕ)) S) → ((q : Bor (List ℕ)) → contains (λ x y. bytes_eq x.now y.now) seen q ≡ list_any (bytes_eq q.now) pins) → list_any (is_seen seen) shared ≡ list_any (λ pin. list_any (bytes_eq pin) pins) shared
+among_seen pins [] seen sees = refl
+among_seen pins (pin ∷ shared) seen sees =
+    let first : is_seen seen pin ≡ list_any (bytes_eq pin) pins = sees (record { ref_ptr = (0, 0); now = pin }) in
+    rw (first, among_seen pins shared seen sees) refl
+
+-- where no pin stands twice by itself, the shared ones decide
+pub shared_decide : {S : Type 0} (pins shared : List (List ℕ)) (seen : HashSet (Bor (List ℕ)) S) → has_twice pins ≡ false → ((q : Bor (List ℕ)) → contains (λ x y. bytes_eq x.now y.now) seen q ≡ list_any (bytes_eq q.now) pins) → list_any (is_seen seen) shared ≡ stands_twice pins shared
+shared_decide pins shared seen once sees = rw once (among_seen pins shared seen sees)

@@ -6,11 +6,14 @@ use Rattle.std.proofs.lemmas.Bool.Decides.{nat_tests}
 use Rattle.std.proofs.lemmas.List.Elements.{All-append}
 use Rattle.std.proofs.lemmas.Option.{option_and_then_some, slice_get_within, get_or_from_slice_get}
 use Rattle.serde_json.specs.Data.{Data}
-use Rattle.serde_json.specs.Find.{get, as_str}
+use Rattle.serde_json.specs.Find.{get}
+use Rattle.facts.proofs.Tests.{left, right}
 use Rattle.cell_table.specs.Build.{number_of, comb_out_of, feed_pin_of, cell_kind_of}
 use Rattle.cell_table.specs.Judge.{is_sized, outs_are_sized, feed_is_sized, feed_is_within, tables_are_sized, is_within_limits}
-use Rattle.cell_table.specs.Kinds.{address_of, comb_of, flop_of, gate_clock_of, latch_of, memory_of, named_kind_of, outs_at, names_at, read_of, reads_at, state_of, write_of, writes_at, written_of}
-use Rattle.cell_table.specs.Members.{all_of, edge_pin_at, items_at, level_pin_at, name_at, number_at, optional_level_pin_at, optional_name_at}
+use Rattle.cell_table.specs.Kinds.{address_of, comb_of, flop_of, gate_clock_of, latch_of, memory_of, named_kind_of, outs_member, read_clock_of, read_of, reads_member, state_of, write_of, writes_member, written_of}
+use Rattle.json_members.specs.Members.{all_of, array_member, data_of, text_member, word_member}
+use Rattle.json_members.specs.Names.{name_member, names_member, optional_name_member}
+use Rattle.cell_table.specs.Members.{edge_pin_member, level_pin_member, optional_level_pin_member}
 use Rattle.cell_table.specs.Sound.{IsTableOver, HasAddress, IsSoundMemory, IsSoundFeed, IsSoundKind, AreSound}
 use Rattle.cell_table.specs.declared.cell.Cell.{Cell}
 use Rattle.cell_table.specs.declared.cell.CellRead.{CellRead}
@@ -45,14 +48,6 @@ all_read {A = A} P f each (x ∷ xs) ys read =
 
 -- ---- tables
 
-and-left : (a b : Bool) → (a && b) ≡ true → a ≡ true
-and-left true b both = refl
-and-left false b both = cc
-
-and-right : (a b : Bool) → (a && b) ≡ true → b ≡ true
-and-right true b both = both
-and-right false b both = cc
-
 table_over : (inputs : ℕ) (table : List Bool) → is_sized inputs table ≡ true → inputs ≤ 6 → IsTableOver inputs (number_of table)
 table_over inputs table sized few =
     let bits : length table ≡ 2 ^ inputs = grind (arith, nat_tests) in
@@ -64,8 +59,8 @@ tables_over : (inputs : ℕ) (outs : List WrittenOut) → outs_are_sized inputs 
 tables_over inputs [] sized few = all_none _
 tables_over inputs (out ∷ outs) sized few =
     all_more (λ o. IsTableOver inputs o.table) (comb_out_of out) (map comb_out_of outs)
-    (table_over inputs out.table (and-left _ _ sized) few)
-    (tables_over inputs outs (and-right _ _ sized) few)
+    (table_over inputs out.table (left _ _ sized) few)
+    (tables_over inputs outs (right _ _ sized) few)
 
 sound_feed : (feed : WrittenFeed) → feed_is_sized feed ≡ true → feed_is_within feed ≡ true → IsSoundFeed (feed_pin_of feed)
 sound_feed (Pin pin) sized within = tt
@@ -99,37 +94,38 @@ addressed_by false there name address read = some_there name address read
 addressed : (address_bits : ℕ) (d : Data) (address : Option (List ℕ)) → address_of address_bits d ≡ Some address → HasAddress address_bits address
 unfolding address_of
 addressed address_bits d address read =
-    addressed_by (address_bits == 0) (is_some (get (codes "address") d)) (name_at (codes "address") d) address read
+    addressed_by (address_bits == 0) (is_some (get (codes "address") d)) (name_member (codes "address") d) address read
 
 write_addressed : (address_bits : ℕ) (d : Data) (write : CellWrite) → write_of address_bits d ≡ Some write → HasAddress address_bits write.address
 unfolding write_of
 write_addressed address_bits d write read =
-    option_and_then_some _ (edge_pin_at (codes "clock") d) write read (λ clock _ r1.
-    option_and_then_some _ (optional_level_pin_at (codes "enable") d) write r1 (λ enable _ r2.
+    option_and_then_some _ (edge_pin_member (codes "clock") d) write read (λ clock _ r1.
+    option_and_then_some _ (optional_level_pin_member (codes "enable") d) write r1 (λ enable _ r2.
     option_and_then_some _ (address_of address_bits d) write r2 (λ address there r3.
-    option_and_then_some _ (name_at (codes "data") d) write r3 (λ feed _ r4.
+    option_and_then_some _ (name_member (codes "data") d) write r3 (λ feed _ r4.
     let same : address ≡ write.address = cc in
     subst (λ a. HasAddress address_bits a) same (addressed address_bits d address there)))))
 
-read_addressed : (address_bits : ℕ) (d : Data) (port : CellRead) → read_of address_bits d ≡ Some port → HasAddress address_bits port.address
+read_addressed : (version address_bits : ℕ) (d : Data) (port : CellRead) → read_of version address_bits d ≡ Some port → HasAddress address_bits port.address
 unfolding read_of
-read_addressed address_bits d port read =
-    option_and_then_some _ (address_of address_bits d) port read (λ address there r1.
-    option_and_then_some _ (name_at (codes "data") d) port r1 (λ bits _ r2.
+read_addressed version address_bits d port read =
+    option_and_then_some _ (read_clock_of version d) port read (λ clock _ r1.
+    option_and_then_some _ (address_of address_bits d) port r1 (λ address there r2.
+    option_and_then_some _ (name_member (codes "data") d) port r2 (λ bits _ r3.
     let same : address ≡ port.address = cc in
-    subst (λ a. HasAddress address_bits a) same (addressed address_bits d address there)))
+    subst (λ a. HasAddress address_bits a) same (addressed address_bits d address there))))
 
-writes_addressed : (address_bits : ℕ) (d : Data) (writes : List CellWrite) → writes_at address_bits d ≡ Some writes → All (λ write. HasAddress address_bits write.address) writes
-unfolding writes_at
+writes_addressed : (address_bits : ℕ) (d : Data) (writes : List CellWrite) → writes_member address_bits d ≡ Some writes → All (λ write. HasAddress address_bits write.address) writes
+unfolding writes_member
 writes_addressed address_bits d writes read =
-    option_and_then_some _ (items_at (codes "writes") d) writes read (λ items _ rest.
-    all_read (λ write. HasAddress address_bits write.address) (write_of address_bits) (write_addressed address_bits) items writes rest)
+    option_and_then_some _ (array_member (codes "writes") d) writes read (λ items _ rest.
+    all_read (λ write. HasAddress address_bits write.address) (write_of address_bits) (write_addressed address_bits) (data_of items) writes rest)
 
-reads_addressed : (address_bits : ℕ) (d : Data) (reads : List CellRead) → reads_at address_bits d ≡ Some reads → All (λ read. HasAddress address_bits read.address) reads
-unfolding reads_at
-reads_addressed address_bits d reads read =
-    option_and_then_some _ (items_at (codes "reads") d) reads read (λ items _ rest.
-    all_read (λ port. HasAddress address_bits port.address) (read_of address_bits) (read_addressed address_bits) items reads rest)
+reads_addressed : (version address_bits : ℕ) (d : Data) (reads : List CellRead) → reads_member version address_bits d ≡ Some reads → All (λ read. HasAddress address_bits read.address) reads
+unfolding reads_member
+reads_addressed version address_bits d reads read =
+    option_and_then_some _ (array_member (codes "reads") d) reads read (λ items _ rest.
+    all_read (λ port. HasAddress address_bits port.address) (read_of version address_bits) (read_addressed version address_bits) (data_of items) reads rest)
 
 -- ---- kinds
 
@@ -140,41 +136,41 @@ said_comb false inputs outputs kind said = let same : Comb inputs outputs ≡ ki
 comb_addressed : (d : Data) (kind : WrittenKind) → comb_of d ≡ Some kind → IsAddressed kind
 unfolding comb_of
 comb_addressed d kind said =
-    option_and_then_some _ (names_at (codes "inputs") d) kind said (λ inputs _ r1.
-    option_and_then_some _ (outs_at d) kind r1 (λ outputs _ r2. said_comb (length outputs == 0) inputs outputs kind r2))
+    option_and_then_some _ (names_member (codes "inputs") d) kind said (λ inputs _ r1.
+    option_and_then_some _ (outs_member d) kind r1 (λ outputs _ r2. said_comb (length outputs == 0) inputs outputs kind r2))
 
 flop_addressed : (d : Data) (kind : WrittenKind) → flop_of d ≡ Some kind → IsAddressed kind
 unfolding flop_of
 flop_addressed d kind said =
-    option_and_then_some _ (edge_pin_at (codes "clock") d) kind said (λ clock _ r1.
+    option_and_then_some _ (edge_pin_member (codes "clock") d) kind said (λ clock _ r1.
     option_and_then_some _ (state_of d) kind r1 (λ state _ r2.
     let same : Flop clock state ≡ kind = cc in subst IsAddressed same tt))
 
 latch_addressed : (d : Data) (kind : WrittenKind) → latch_of d ≡ Some kind → IsAddressed kind
 unfolding latch_of
 latch_addressed d kind said =
-    option_and_then_some _ (level_pin_at (codes "gate") d) kind said (λ gate _ r1.
+    option_and_then_some _ (level_pin_member (codes "gate") d) kind said (λ gate _ r1.
     option_and_then_some _ (state_of d) kind r1 (λ state _ r2.
     let same : Latch gate state ≡ kind = cc in subst IsAddressed same tt))
 
 gate_clock_addressed : (d : Data) (kind : WrittenKind) → gate_clock_of d ≡ Some kind → IsAddressed kind
 unfolding gate_clock_of
 gate_clock_addressed d kind said =
-    option_and_then_some _ (name_at (codes "clock") d) kind said (λ clock _ r1.
-    option_and_then_some _ (name_at (codes "enable") d) kind r1 (λ enable _ r2.
-    option_and_then_some _ (optional_name_at (codes "test") d) kind r2 (λ test _ r3.
-    option_and_then_some _ (name_at (codes "output") d) kind r3 (λ output _ r4.
+    option_and_then_some _ (name_member (codes "clock") d) kind said (λ clock _ r1.
+    option_and_then_some _ (name_member (codes "enable") d) kind r1 (λ enable _ r2.
+    option_and_then_some _ (optional_name_member (codes "test") d) kind r2 (λ test _ r3.
+    option_and_then_some _ (name_member (codes "output") d) kind r3 (λ output _ r4.
     let same : GateClock clock enable test output ≡ kind = cc in subst IsAddressed same tt))))
 
-memory_addressed : (d : Data) (kind : WrittenKind) → memory_of d ≡ Some kind → IsAddressed kind
+memory_addressed : (version : ℕ) (d : Data) (kind : WrittenKind) → memory_of version d ≡ Some kind → IsAddressed kind
 unfolding memory_of
-memory_addressed d kind said =
-    option_and_then_some _ (number_at (codes "address_bits") d) kind said (λ address_bits _ r1.
-    option_and_then_some _ (number_at (codes "width") d) kind r1 (λ width _ r2.
-    option_and_then_some _ (writes_at address_bits d) kind r2 (λ writes w r3.
-    option_and_then_some _ (reads_at address_bits d) kind r3 (λ reads r r4.
+memory_addressed version d kind said =
+    option_and_then_some _ (word_member (codes "address_bits") d) kind said (λ address_bits _ r1.
+    option_and_then_some _ (word_member (codes "width") d) kind r1 (λ width _ r2.
+    option_and_then_some _ (writes_member address_bits d) kind r2 (λ writes w r3.
+    option_and_then_some _ (reads_member version address_bits d) kind r3 (λ reads r r4.
     let same : Memory address_bits width writes reads ≡ kind = cc in
-    subst IsAddressed same (writes_addressed address_bits d writes w, reads_addressed address_bits d reads r)))))
+    subst IsAddressed same (writes_addressed address_bits d writes w, reads_addressed version address_bits d reads r)))))
 
 -- whichever of the five was said
 one_of : (a b c e f : Bool) (comb flop latch gate memory : Option WrittenKind) (kind : WrittenKind)
@@ -188,22 +184,21 @@ one_of false false false true f comb flop latch gate memory kind p q r s t said 
 one_of false false false false true comb flop latch gate memory kind p q r s t said = t said
 one_of false false false false false comb flop latch gate memory kind p q r s t said = cc
 
-kind_addressed : (text : List ℕ) (d : Data) (kind : WrittenKind) → named_kind_of text d ≡ Some kind → IsAddressed kind
+kind_addressed : (version : ℕ) (text : List ℕ) (d : Data) (kind : WrittenKind) → named_kind_of version text d ≡ Some kind → IsAddressed kind
 unfolding named_kind_of
-kind_addressed text d kind said =
+kind_addressed version text d kind said =
     one_of (bytes_eq text (codes "comb")) (bytes_eq text (codes "flop")) (bytes_eq text (codes "latch")) (bytes_eq text (codes "gate_clock")) (bytes_eq text (codes "memory"))
-    (comb_of d) (flop_of d) (latch_of d) (gate_clock_of d) (memory_of d) kind
-    (comb_addressed d kind) (flop_addressed d kind) (latch_addressed d kind) (gate_clock_addressed d kind) (memory_addressed d kind) said
+    (comb_of d) (flop_of d) (latch_of d) (gate_clock_of d) (memory_of version d) kind
+    (comb_addressed d kind) (flop_addressed d kind) (latch_addressed d kind) (gate_clock_addressed d kind) (memory_addressed version d kind) said
 
-pub written_addressed : (d : Data) (written : WrittenCell) → written_of d ≡ Some written → IsAddressed written.kind
+pub written_addressed : (version : ℕ) (d : Data) (written : WrittenCell) → written_of version d ≡ Some written → IsAddressed written.kind
 unfolding written_of
-written_addressed d written said =
-    option_and_then_some _ (name_at (codes "name") d) written said (λ name _ r1.
-    option_and_then_some _ (get (codes "kind") d) written r1 (λ member _ r2.
-    option_and_then_some _ (as_str member) written r2 (λ text _ r3.
-    option_and_then_some _ (named_kind_of text d) written r3 (λ kind k r4.
+written_addressed version d written said =
+    option_and_then_some _ (name_member (codes "name") d) written said (λ name _ r1.
+    option_and_then_some _ (text_member (codes "kind") d) written r1 (λ text _ r2.
+    option_and_then_some _ (named_kind_of version text d) written r2 (λ kind k r3.
     let same : kind ≡ written.kind = cc in
-    subst IsAddressed same (kind_addressed text d kind k)))))
+    subst IsAddressed same (kind_addressed version text d kind k))))
 
 -- ---- the whole
 
@@ -212,12 +207,12 @@ sound_memory : (address_bits width : ℕ) (writes : List CellWrite) (reads : Lis
     → (nat_le address_bits 16 && nat_le 1 width && nat_le width 128 && nat_le (length writes + length reads) 16) ≡ true
     → IsSoundMemory address_bits width writes reads
 sound_memory address_bits width writes reads at within =
-    let ports = and-right _ (nat_le (length writes + length reads) 16) within in
-    let three = and-left _ (nat_le (length writes + length reads) 16) within in
-    let small = and-right _ (nat_le width 128) three in
-    let two = and-left _ (nat_le width 128) three in
-    let some = and-right _ (nat_le 1 width) two in
-    let few = and-left _ (nat_le 1 width) two in
+    let ports = right _ (nat_le (length writes + length reads) 16) within in
+    let three = left _ (nat_le (length writes + length reads) 16) within in
+    let small = right _ (nat_le width 128) three in
+    let two = left _ (nat_le width 128) three in
+    let some = right _ (nat_le 1 width) two in
+    let few = left _ (nat_le 1 width) two in
     record {
       few_address_bits = grind (arith, nat_tests);
       some_width = grind (arith, nat_tests);
@@ -243,10 +238,6 @@ pub AreSound-push : (cells : List Cell) (cell : Cell) → AreSound cells → IsS
 AreSound-push cells cell sound one =
     let P : Cell → Type 0 = λ c. IsSoundKind c.kind in
     All-append P cells (cell ∷ []) sound (all_more P cell [] one (all_none P))
-
--- no cells are sound
-pub AreSound-none : AreSound []
-AreSound-none = all_none (λ cell. IsSoundKind cell.kind)
 
 -- the cell at a place is
 pub AreSound-at : (cells : List Cell) (k : ℕ) (cell : Cell) → AreSound cells → slice_get cells k ≡ Some cell → IsSoundKind cell.kind

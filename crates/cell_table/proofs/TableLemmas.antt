@@ -8,7 +8,7 @@ use Rattle.std.proofs.lemmas.Slice.Eq.{bytes_eq-Decides}
 use Rattle.id_arena.proofs.FirstPlaces.{list_any-position}
 use Rattle.id_arena.specs.Names.{place_among}
 use Rattle.serde_json.specs.Data.{Data}
-use Rattle.cell_table.specs.Members.{all_of}
+use Rattle.json_members.specs.Members.{all_of}
 use Rattle.cell_table.specs.Faults.{cell_fault, cell_of}
 use Rattle.cell_table.specs.Table.{names_of, IsTable}
 use Rattle.cell_table.specs.declared.cell.Cell.{Cell}
@@ -46,14 +46,14 @@ take-push : (cells : List Cell) (cell : Cell) (k : ℕ) → k ≤ length cells �
 take-push cells cell k within = take-append-le k cells (cell ∷ []) within
 
 -- one cell more is a table, if it has no fault beside the others
-pub IsTable-more : (ds : List Data) (cells : List Cell) (i : ℕ) (d : Data) (cell : Cell) → IsTable (take i ds) cells → length cells ≡ i → slice_get ds i ≡ Some d → cell_fault (names_of cells) d ≡ None → cell_of d ≡ Some cell → IsTable (take (i + 1) ds) (cells ++ cell ∷ [])
-IsTable-more ds cells i d cell table count there sound said =
+pub IsTable-more : (version : ℕ) (ds : List Data) (cells : List Cell) (i : ℕ) (d : Data) (cell : Cell) → IsTable version (take i ds) cells → length cells ≡ i → slice_get ds i ≡ Some d → cell_fault version (names_of cells) d ≡ None → cell_of version d ≡ Some cell → IsTable version (take (i + 1) ds) (cells ++ cell ∷ [])
+IsTable-more version ds cells i d cell table count there sound said =
     let within : i < length ds = slice_get_within ds i d there in
     let front : length (take i ds) ≡ i = length-take-le i ds (omega arith) in
     let item : get_or ds i d ≡ d = get_or_from_slice_get ds i d d there in
     let more : take (i + 1) ds ≡ take i ds ++ d ∷ [] = take_more ds i d within ∙ ap (λ x. take i ds ++ x ∷ []) item in
     record {
-      said = rw more (all_of-push cell_of (take i ds) d cells cell table.said said);
+      said = rw more (all_of-push (cell_of version) (take i ds) d cells cell table.said said);
       sound = λ k e at. elim (slice_get-push (take i ds) d k e (rw more at at)) [
         | inl h ↦
             let few : k ≤ length cells = omega (arith, h.0) in

@@ -1,4 +1,5 @@
 -- The cell that a written cell stands for: its tables as numbers, all else as it is.
+-- The rule is told in docs/FORMATS.md, "The cell table".
 use Rattle.std.specs.Prelude.{◌+◌, ◌*◌, ℕ, List, [], ◌∷◌, map, Bool, if◌then◌else◌}
 use Rattle.cell_table.specs.declared.cell.Cell.{Cell}
 use Rattle.cell_table.specs.declared.cell.CellKind.{CellKind}

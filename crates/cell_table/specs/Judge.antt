@@ -1,5 +1,6 @@
 -- What a cell of good shape may still have wrong, beside a pin that stands twice: the length of a
 -- table, and the limits.
+-- The rule is told in docs/FORMATS.md, "The cell table".
 use Rattle.std.specs.Prelude.{◌==◌, ◌^◌, ◌+◌, ◌&&◌, ℕ, List, length, Bool, true, nat_le}
 use Rattle.std.specs.List.{list_all}
 use Rattle.cell_table.specs.declared.written.WrittenFeed.{WrittenFeed}

@@ -1,6 +1,7 @@
 pub mod Members
 pub mod Kinds
 pub mod Pins
+pub mod Seen
 pub mod Judge
 pub mod Build
 pub mod Faults

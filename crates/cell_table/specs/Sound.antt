@@ -1,4 +1,5 @@
 -- What holds of each cell of a table, so that whoever makes elements of it need not ask again.
+-- The rule is told in docs/FORMATS.md, "The cell table".
 use Rattle.std.specs.Prelude.{◌≡◌, ◌==◌, ◌+◌, ◌^◌, ◌<◌, ◌≤◌, ℕ, List, length, Option, is_none}
 use Rattle.std.specs.List.{All}
 use Rattle.cell_table.specs.declared.cell.Cell.{Cell}

@@ -1,10 +1,9 @@
 -- The table that a text stands for, or why it stands for none.
-use Rattle.std.specs.Prelude.{◌≡◌, ℕ, List, length, map, take, slice_get, codes, Option, Some, None, Result, Ok, Err}
-use Rattle.std.specs.Str.{IsUtf8}
+-- The rule is told in docs/FORMATS.md, "The cell table".
+use Rattle.std.specs.Prelude.{◌≡◌, ◌==◌, ◌||◌, IsTrue, is_some, if◌then◌else◌, ℕ, List, length, map, take, slice_get, codes, option_map, Option, Some, None, Result, Ok, Err}
 use Rattle.serde_json.specs.Data.{Data}
-use Rattle.serde_json.specs.Find.{get, as_number, as_u64}
-use Rattle.serde_json.specs.Read.{read}
-use Rattle.cell_table.specs.Members.{◌>>=◌, all_of, items_at}
+use Rattle.json_members.specs.JsonText.{IsTextOf, IsNoJson}
+use Rattle.json_members.specs.Members.{◌>>=◌, all_of, array_member, data_of, word_member}
 use Rattle.cell_table.specs.Faults.{cell_fault, cell_of}
 use Rattle.cell_table.specs.declared.cell.Cell.{Cell}
 use Rattle.cell_table.specs.declared.fault.CellFault.{CellFault}
@@ -14,47 +13,47 @@ use Rattle.cell_table.specs.declared.fault.CellFault.TheVariants.{NotJson, Versi
 abbrev pub names_of : List Cell → List (List ℕ)
 names_of cells = map (λ cell. cell.name) cells
 
--- the cells that JSON values say, none of which has a fault beside those before it
-pub record IsTable (ds : List Data) (cells : List Cell) : Type 0 where
-  pub said : all_of cell_of ds ≡ Some cells
-  pub sound : (k : ℕ) (d : Data) → slice_get ds k ≡ Some d → cell_fault (names_of (take k cells)) d ≡ None
+-- the cells that JSON values say in a table of this version, none of which has a fault beside those
+-- before it
+pub record IsTable (version : ℕ) (ds : List Data) (cells : List Cell) : Type 0 where
+  pub said : all_of (cell_of version) ds ≡ Some cells
+  pub sound : (k : ℕ) (d : Data) → slice_get ds k ≡ Some d → cell_fault version (names_of (take k cells)) d ≡ None
 
 -- the fault of the first of the values that has one: those before it are a table
-pub record IsFirstFault (ds : List Data) (fault : CellFault) : Type 0 where
+pub record IsFirstFault (version : ℕ) (ds : List Data) (fault : CellFault) : Type 0 where
   pub before : List Cell
-  pub table : IsTable (take (length before) ds) before
+  pub table : IsTable version (take (length before) ds) before
   pub faulty : Data
   pub there : slice_get ds (length before) ≡ Some faulty
-  pub is : cell_fault (names_of before) faulty ≡ Some fault
+  pub is : cell_fault version (names_of before) faulty ≡ Some fault
 
--- what a list of JSON values stands for
-abbrev pub ListStands : List Data → Result (List Cell) CellFault → Type 0
-ListStands ds (Ok cells) = IsTable ds cells
-ListStands ds (Err NoMemory) = Unit {0}
-ListStands ds (Err fault) = IsFirstFault ds fault
+-- what a list of JSON values stands for in a table of this version
+abbrev pub ListStands : ℕ → List Data → Result (List Cell) CellFault → Type 0
+ListStands version ds (Ok cells) = IsTable version ds cells
+ListStands version ds (Err NoMemory) = Unit {0}
+ListStands version ds (Err fault) = IsFirstFault version ds fault
 
--- the number that is the member `version`
+-- the number that is the member `version`, if it is 1 or 2
 unfoldable pub version_of : Data → Option ℕ
 version_of d = do
-  member ← get (codes "version") d
-  number ← as_number member
-  as_u64 number
+  version ← word_member (codes "version") d
+  if version == 1 || version == 2 then Some version else None
 
--- the values in the member `cells`, in a table of version 1
-pub record HasItems (d : Data) (ds : List Data) : Type 0 where
-  pub version : version_of d ≡ Some 1
-  pub items : items_at (codes "cells") d ≡ Some ds
+-- the version, and the values in the member `cells`
+pub record HasItems (d : Data) (version : ℕ) (ds : List Data) : Type 0 where
+  pub version_is : version_of d ≡ Some version
+  pub items : option_map data_of (array_member (codes "cells") d) ≡ Some ds
 
--- what a JSON value stands for: `version` is 1, and `cells` is a list of cells
+-- what a JSON value stands for: `version` is 1 or 2, and `cells` is a list of cells
 abbrev pub ValueStands : Data → Result (List Cell) CellFault → Type 0
 ValueStands d (Err NotJson) = ⊥
-ValueStands d (Err Version) = version_of d ≡ Some 1 → ⊥
-ValueStands d (Err (BadShape None)) = (version_of d ≡ Some 1) × (items_at (codes "cells") d ≡ None)
+ValueStands d (Err Version) = version_of d ≡ None
+ValueStands d (Err (BadShape None)) = IsTrue (is_some (version_of d)) × (array_member (codes "cells") d ≡ None)
 ValueStands d (Err NoMemory) = Unit {0}
-ValueStands d result = (ds : List Data) × HasItems d ds × ListStands ds result
+ValueStands d result = (version : ℕ) × (ds : List Data) × HasItems d version ds × ListStands version ds result
 
 -- what a text stands for: NotJson exactly where it is no JSON text, else what its value stands for
 abbrev pub Stands : List ℕ → Result (List Cell) CellFault → Type 0
-Stands bytes (Err NotJson) = IsUtf8 bytes → read bytes ≡ None
+Stands bytes (Err NotJson) = IsNoJson bytes
 Stands bytes (Err NoMemory) = Unit {0}
-Stands bytes result = IsUtf8 bytes × (d : Data) × (read bytes ≡ Some d) × ValueStands d result
+Stands bytes result = (d : Data) × IsTextOf bytes d × ValueStands d result

@@ -11,7 +11,7 @@ pub struct Cell {
 }
 
 /// What a cell is. No pin of a cell is named twice, but that the output `q` of a flip-flop or a
-/// latch may feed the cell itself.
+/// latch may feed the cell itself, and that ports of a memory may have one clock in version 2.
 #[derive(Debug, Drop)]
 pub enum CellKind {
     /// Combinational: each output is a table over all inputs, of which there are at most 6.
@@ -100,6 +100,8 @@ pub struct CellWrite {
 /// A read port of a memory cell.
 #[derive(Debug, Drop)]
 pub struct CellRead {
+    /// None where the port shows its word at all times; else it takes the word at this edge.
+    pub clock: Option<EdgePin>,
     /// As wide as the address; None exactly where the memory has one word.
     pub address: Option<Text>,
     /// The data pin, as wide as a word.

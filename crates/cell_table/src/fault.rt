@@ -1,6 +1,7 @@
 //! Why a cell table is refused.
 
 use emu_io::NoMemory;
+use json_members::JsonFault;
 
 /// Why a text is no cell table. `cell` is a cell's place in the list, from 0.
 ///
@@ -10,7 +11,7 @@ use emu_io::NoMemory;
 pub enum CellFault {
     /// The text is no JSON text.
     NotJson,
-    /// The table's version is not 1.
+    /// The table's version is neither 1 nor 2.
     Version,
     /// The table (None) or a cell is not of the form of a cell table.
     BadShape { cell: Option<u32> },
@@ -34,5 +35,18 @@ impl From<NoMemory> for CellFault {
 
     fn from(_: NoMemory) -> CellFault {
         CellFault::NoMemory
+    }
+}
+
+impl From<JsonFault> for CellFault {
+    ghost use Rattle.cell_table.specs.Faults.{FromJson};
+
+    ghost from_gives = { FromJson };
+
+    fn from(fault: JsonFault) -> CellFault {
+        match fault {
+            JsonFault::NotJson => CellFault::NotJson,
+            JsonFault::NoMemory => CellFault::NoMemory,
+        }
     }
 }

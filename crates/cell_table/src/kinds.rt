@@ -1,28 +1,24 @@
 //! The five kinds of cells, read from their JSON objects.
 
-ghost use Rattle.std.specs.Prelude.{◌≡◌, Ok, Err, map};
-ghost use Rattle.serde_json.specs.View.{view};
-ghost use Rattle.cell_table.specs.Members.{Reads, all_of};
-ghost use Rattle.cell_table.specs.Kinds.{address_of, comb_of, feed_of, flop_of, gate_clock_of, latch_of, memory_of, named_kind_of, names_at, out_of, outs_at, read_of, reads_at, state_of, table_feed_of, write_of, writes_at, written_of};
+ghost use Rattle.std.specs.Prelude.{◌≡◌, Ok, Err};
+ghost use Rattle.serde_json.specs.View.{view, items_view};
+ghost use Rattle.json_members.specs.Members.{each};
+ghost use Rattle.json_members.specs.Shapes.{Reads};
+ghost use Rattle.cell_table.specs.Kinds.{address_of, comb_of, feed_of, flop_of, gate_clock_of, latch_of, memory_of, named_kind_of, out_of, outs_member, read_clock_of, read_of, reads_member, state_of, table_feed_of, write_of, writes_member, written_of};
 
-use crate::cell::{CellRead, CellWrite};
+use crate::cell::{CellRead, CellWrite, EdgePin};
 use crate::members::{
-    ShapeFault, edge_pin_member, items_member, level_pin_member, name_from, name_member,
-    names_from, number_member, optional_level_pin_member, optional_name_member, table_member,
+    edge_pin_member, level_pin_member, optional_edge_pin_member, optional_level_pin_member,
+    table_member,
 };
 use crate::written::{WrittenCell, WrittenFeed, WrittenKind, WrittenOut, WrittenState};
 use emu_io::{List, Text};
+use json_members::{
+    ShapeFault, array_member, name_member, name_of, names_member, optional_name_member,
+    text_member, word_member,
+};
 use serde_json::Value;
 use std::alloc::Global;
-
-/// The names in the array that is the member of this key.
-#[tactic(auto, unfolding(crate::specs::Kinds::names_at))]
-fn names_member(alloc: Global, value: &Value, key: &str) -> Result<List<Text>, ShapeFault>
-    ensures { Reads (names_at key.now (view value.now)) result }
-{
-    let items = items_member(value, key)?;
-    names_from(alloc, items)
-}
 
 /// An output of a combinational cell.
 #[tactic(auto, unfolding(crate::specs::Kinds::out_of))]
@@ -36,7 +32,7 @@ fn out_from(alloc: Global, value: &Value) -> Result<WrittenOut, ShapeFault>
 
 /// The outputs that the values of an array are.
 fn outs_from(alloc: Global, values: &[Value]) -> Result<List<WrittenOut>, ShapeFault>
-    ensures { Reads (all_of out_of (map view values.now)) result }
+    ensures { Reads (each out_of (items_view values.now)) result }
 {
     let mut outs = List::new(alloc);
     for value in values {
@@ -46,11 +42,13 @@ fn outs_from(alloc: Global, values: &[Value]) -> Result<List<WrittenOut>, ShapeF
 }
 
 /// The outputs of a combinational cell.
-#[tactic(auto, unfolding(crate::specs::Kinds::outs_at))]
+#[tactic(auto, unfolding(crate::specs::Kinds::outs_member))]
 fn outs_member(alloc: Global, value: &Value) -> Result<List<WrittenOut>, ShapeFault>
-    ensures { Reads (outs_at (view value.now)) result }
+    ensures { Reads (outs_member (view value.now)) result }
 {
-    let items = items_member(value, "outputs")?;
+    let Some(items) = array_member(value, "outputs") else {
+        return Err(ShapeFault::BadShape);
+    };
     outs_from(alloc, items)
 }
 
@@ -86,7 +84,7 @@ fn feed_from(alloc: Global, value: &Value) -> Result<WrittenFeed, ShapeFault>
     ensures { Reads (feed_of (view value.now)) result }
 {
     if value.is_string() {
-        return Ok(WrittenFeed::Pin(name_from(alloc, value)?));
+        return Ok(WrittenFeed::Pin(name_of(alloc, value)?));
     }
     table_feed_from(alloc, value)
 }
@@ -187,7 +185,7 @@ fn writes_from(
     values: &[Value],
     address_bits: u32,
 ) -> Result<List<CellWrite>, ShapeFault>
-    ensures { Reads (all_of (write_of address_bits) (map view values.now)) result }
+    ensures { Reads (each (write_of address_bits) (items_view values.now)) result }
 {
     let mut writes = List::new(alloc);
     for value in values {
@@ -197,65 +195,101 @@ fn writes_from(
 }
 
 /// The write ports of a memory.
-#[tactic(auto, unfolding(crate::specs::Kinds::writes_at))]
+#[tactic(auto, unfolding(crate::specs::Kinds::writes_member))]
 fn writes_member(
     alloc: Global,
     value: &Value,
     address_bits: u32,
 ) -> Result<List<CellWrite>, ShapeFault>
-    ensures { Reads (writes_at address_bits (view value.now)) result }
+    ensures { Reads (writes_member address_bits (view value.now)) result }
 {
-    let items = items_member(value, "writes")?;
+    let Some(items) = array_member(value, "writes") else {
+        return Err(ShapeFault::BadShape);
+    };
     writes_from(alloc, items, address_bits)
+}
+
+/// The clock of a read port, which has none before version 2.
+#[tactic(auto, unfolding(crate::specs::Kinds::read_clock_of))]
+fn read_clock_from(
+    alloc: Global,
+    version: u32,
+    value: &Value,
+) -> Result<Option<EdgePin>, ShapeFault>
+    ensures { Reads (read_clock_of version (view value.now)) result }
+{
+    if version == 2 {
+        optional_edge_pin_member(alloc, value, "clock")
+    } else {
+        Ok(None)
+    }
 }
 
 /// A read port.
 #[tactic(auto, unfolding(crate::specs::Kinds::read_of))]
-fn read_from(alloc: Global, value: &Value, address_bits: u32) -> Result<CellRead, ShapeFault>
-    ensures { Reads (read_of address_bits (view value.now)) result }
+fn read_from(
+    alloc: Global,
+    version: u32,
+    value: &Value,
+    address_bits: u32,
+) -> Result<CellRead, ShapeFault>
+    ensures { Reads (read_of version address_bits (view value.now)) result }
 {
+    let clock = read_clock_from(alloc, version, value)?;
     let address = address_from(alloc, value, address_bits)?;
     let bits = name_member(alloc, value, "data")?;
-    Ok(CellRead { address, bits })
+    Ok(CellRead {
+        clock,
+        address,
+        bits,
+    })
 }
 
 /// The read ports that the values of an array are.
 fn reads_from(
     alloc: Global,
+    version: u32,
     values: &[Value],
     address_bits: u32,
 ) -> Result<List<CellRead>, ShapeFault>
-    ensures { Reads (all_of (read_of address_bits) (map view values.now)) result }
+    ensures { Reads (each (read_of version address_bits) (items_view values.now)) result }
 {
     let mut reads = List::new(alloc);
     for value in values {
-        reads.push(read_from(alloc, value, address_bits)?)?;
+        reads.push(read_from(alloc, version, value, address_bits)?)?;
     }
     Ok(reads)
 }
 
 /// The read ports of a memory.
-#[tactic(auto, unfolding(crate::specs::Kinds::reads_at))]
+#[tactic(auto, unfolding(crate::specs::Kinds::reads_member))]
 fn reads_member(
     alloc: Global,
+    version: u32,
     value: &Value,
     address_bits: u32,
 ) -> Result<List<CellRead>, ShapeFault>
-    ensures { Reads (reads_at address_bits (view value.now)) result }
+    ensures { Reads (reads_member version address_bits (view value.now)) result }
 {
-    let items = items_member(value, "reads")?;
-    reads_from(alloc, items, address_bits)
+    let Some(items) = array_member(value, "reads") else {
+        return Err(ShapeFault::BadShape);
+    };
+    reads_from(alloc, version, items, address_bits)
 }
 
 /// A memory.
 #[tactic(auto, unfolding(crate::specs::Kinds::memory_of))]
-fn memory_from(alloc: Global, value: &Value) -> Result<WrittenKind, ShapeFault>
-    ensures { Reads (memory_of (view value.now)) result }
+fn memory_from(alloc: Global, version: u32, value: &Value) -> Result<WrittenKind, ShapeFault>
+    ensures { Reads (memory_of version (view value.now)) result }
 {
-    let address_bits = number_member(value, "address_bits")?;
-    let width = number_member(value, "width")?;
+    let Some(address_bits) = word_member(value, "address_bits") else {
+        return Err(ShapeFault::BadShape);
+    };
+    let Some(width) = word_member(value, "width") else {
+        return Err(ShapeFault::BadShape);
+    };
     let writes = writes_member(alloc, value, address_bits)?;
-    let reads = reads_member(alloc, value, address_bits)?;
+    let reads = reads_member(alloc, version, value, address_bits)?;
     Ok(WrittenKind::Memory {
         address_bits,
         width,
@@ -266,28 +300,37 @@ fn memory_from(alloc: Global, value: &Value) -> Result<WrittenKind, ShapeFault>
 
 /// A cell of the kind of this name.
 #[tactic(auto, unfolding(crate::specs::Kinds::named_kind_of))]
-fn named_kind_from(alloc: Global, value: &Value, kind: &str) -> Result<WrittenKind, ShapeFault>
-    ensures { Reads (named_kind_of kind.now (view value.now)) result }
+fn named_kind_from(
+    alloc: Global,
+    version: u32,
+    value: &Value,
+    kind: &str,
+) -> Result<WrittenKind, ShapeFault>
+    ensures { Reads (named_kind_of version kind.now (view value.now)) result }
 {
     match kind {
         "comb" => comb_from(alloc, value),
         "flop" => flop_from(alloc, value),
         "latch" => latch_from(alloc, value),
         "gate_clock" => gate_clock_from(alloc, value),
-        "memory" => memory_from(alloc, value),
+        "memory" => memory_from(alloc, version, value),
         _ => Err(ShapeFault::BadShape),
     }
 }
 
-/// The cell that a JSON value says.
+/// The cell that a JSON value says in a table of this version.
 #[tactic(auto, unfolding(crate::specs::Kinds::written_of))]
-pub(crate) fn written_from(alloc: Global, value: &Value) -> Result<WrittenCell, ShapeFault>
-    ensures { Reads (written_of (view value.now)) result }
+pub(crate) fn written_from(
+    alloc: Global,
+    version: u32,
+    value: &Value,
+) -> Result<WrittenCell, ShapeFault>
+    ensures { Reads (written_of version (view value.now)) result }
 {
     let name = name_member(alloc, value, "name")?;
-    let Some(kind) = value.get("kind").and_then(Value::as_str) else {
+    let Some(kind) = text_member(value, "kind") else {
         return Err(ShapeFault::BadShape);
     };
-    let kind = named_kind_from(alloc, value, kind)?;
+    let kind = named_kind_from(alloc, version, value, kind)?;
     Ok(WrittenCell { name, kind })
 }

@@ -1,9 +1,11 @@
 //! The pins of a cell, gathered to see whether one is named twice.
 
-ghost use Rattle.std.specs.Prelude.{◌++◌, ◌≡◌, ◌∷◌, [], IfOk, OnOk, flat_map};
-ghost use Rattle.cell_table.specs.Pins.{feed_pins, has_twice, level_pins, name_pins, others, out_pins, pins_of, read_pins, state_pins, write_pins};
+ghost use Rattle.std.specs.Prelude.{◌++◌, ◌≡◌, ◌∷◌, [], IfOk, OnOk, flat_map, map};
+ghost use Rattle.std.specs.List.{list_any};
+ghost use Rattle.cell_table.specs.Seen.{is_seen};
+ghost use Rattle.cell_table.specs.Pins.{clock_pins, edge_pins, feed_pins, level_pins, name_pins, others, out_pins, pins_of, read_pins, shared_pins, stands_twice, state_pins, write_pins};
 
-use crate::cell::{CellRead, CellWrite, LevelPin};
+use crate::cell::{CellRead, CellWrite, EdgePin, LevelPin};
 use crate::written::{WrittenFeed, WrittenKind, WrittenOut, WrittenState};
 use emu_io::{NoMemory, Text};
 use std::alloc::Global;
@@ -25,10 +27,40 @@ impl<'c> Model for Pins<'c> {
 }
 
 impl<'c> Pins<'c> {
-    /// All pins of a cell.
+    /// The clock pins of a cell that ports may share.
+    #[tactic(auto, unfolding(crate::specs::Pins::shared_pins))]
+    pub(crate) fn shared(
+        alloc: Global,
+        version: u32,
+        kind: &'c WrittenKind,
+    ) -> Result<Pins<'c>, NoMemory>
+        ensures { IfOk result (λ pins. pins ≡ shared_pins version kind.now) }
+    {
+        let mut pins = Pins {
+            names: Vec::new(alloc),
+        };
+        match kind {
+            WrittenKind::Comb { .. }
+            | WrittenKind::Flop { .. }
+            | WrittenKind::Latch { .. }
+            | WrittenKind::GateClock { .. } => {}
+            WrittenKind::Memory { writes, reads, .. } => {
+                if version == 2 {
+                    pins.add_clocks(writes.as_slice(), reads.as_slice())?;
+                }
+            }
+        }
+        Ok(pins)
+    }
+
+    /// All pins of a cell but for those that ports may share.
     #[tactic(auto, unfolding(crate::specs::Pins::pins_of))]
-    pub(crate) fn of(alloc: Global, kind: &'c WrittenKind) -> Result<Pins<'c>, NoMemory>
-        ensures { IfOk result (λ pins. pins ≡ pins_of kind.now) }
+    pub(crate) fn of(
+        alloc: Global,
+        version: u32,
+        kind: &'c WrittenKind,
+    ) -> Result<Pins<'c>, NoMemory>
+        ensures { IfOk result (λ pins. pins ≡ pins_of version kind.now) }
     {
         let mut pins = Pins {
             names: Vec::new(alloc),
@@ -60,14 +92,17 @@ impl<'c> Pins<'c> {
             WrittenKind::Memory { writes, reads, .. } => {
                 pins.add_writes(writes.as_slice())?;
                 pins.add_reads(reads.as_slice())?;
+                if version != 2 {
+                    pins.add_clocks(writes.as_slice(), reads.as_slice())?;
+                }
             }
         }
         Ok(pins)
     }
 
-    /// Whether a pin stands twice.
-    pub(crate) fn has_twice(&self, alloc: Global) -> Result<bool, NoMemory>
-        ensures { IfOk result (λ twice. twice ≡ has_twice self.now) }
+    /// Whether a pin stands twice among these, or also among those that ports may share.
+    pub(crate) fn stand_twice(&self, alloc: Global, shared: &Pins<'c>) -> Result<bool, NoMemory>
+        ensures { IfOk result (λ twice. twice ≡ stands_twice self.now shared.now) }
     {
         let mut seen = HashSet::new(alloc);
         for name in self.names.as_slice() {
@@ -75,7 +110,19 @@ impl<'c> Pins<'c> {
                 return Ok(true);
             }
         }
-        Ok(false)
+        Ok(shared.are_among(&seen))
+    }
+
+    /// Whether one of the pins is among those that were seen.
+    fn are_among(&self, seen: &HashSet<&'c [u8]>) -> bool
+        ensures { result ≡ list_any (is_seen seen.now) self.now }
+    {
+        for name in self.names.as_slice() {
+            if seen.contains(*name) {
+                return true;
+            }
+        }
+        false
     }
 
     /// One pin more.
@@ -92,6 +139,16 @@ impl<'c> Pins<'c> {
     {
         if let Some(pin) = pin {
             self.add(pin)?;
+        }
+        Ok(())
+    }
+
+    /// A pin with an edge that may be left out.
+    fn add_edge(&mut self, edge: &'c Option<EdgePin>) -> Result<(), NoMemory>
+        ensures { OnOk result (self.new ≡ self.old ++ edge_pins edge.now) }
+    {
+        if let Some(edge) = edge {
+            self.add(&edge.pin)?;
         }
         Ok(())
     }
@@ -158,18 +215,17 @@ impl<'c> Pins<'c> {
         self.add_level(&state.preset)
     }
 
-    /// The pins of a write port.
+    /// The pins of a write port but for its clock.
     #[tactic(auto, unfolding(crate::specs::Pins::write_pins))]
     fn add_write(&mut self, write: &'c CellWrite) -> Result<(), NoMemory>
         ensures { OnOk result (self.new ≡ self.old ++ write_pins write.now) }
     {
-        self.add(&write.clock.pin)?;
         self.add_level(&write.enable)?;
         self.add_optional(&write.address)?;
         self.add(&write.feed)
     }
 
-    /// The pins of a read port.
+    /// The pins of a read port but for its clock.
     #[tactic(auto, unfolding(crate::specs::Pins::read_pins))]
     fn add_read(&mut self, read: &'c CellRead) -> Result<(), NoMemory>
         ensures { OnOk result (self.new ≡ self.old ++ read_pins read.now) }
@@ -178,7 +234,35 @@ impl<'c> Pins<'c> {
         self.add(&read.bits)
     }
 
-    /// The pins of the write ports.
+    /// The clock pins of the ports.
+    fn add_clocks(&mut self, writes: &'c [CellWrite], reads: &'c [CellRead]) -> Result<(), NoMemory>
+        ensures { OnOk result (self.new ≡ self.old ++ clock_pins writes.now reads.now) }
+    {
+        self.add_write_clocks(writes)?;
+        self.add_read_clocks(reads)
+    }
+
+    /// The clock pins of the write ports.
+    fn add_write_clocks(&mut self, writes: &'c [CellWrite]) -> Result<(), NoMemory>
+        ensures { OnOk result (self.new ≡ self.old ++ map (λ w. w.clock.pin) writes.now) }
+    {
+        for write in writes {
+            self.add(&write.clock.pin)?;
+        }
+        Ok(())
+    }
+
+    /// The clock pins of the read ports that have one.
+    fn add_read_clocks(&mut self, reads: &'c [CellRead]) -> Result<(), NoMemory>
+        ensures { OnOk result (self.new ≡ self.old ++ flat_map (λ r. edge_pins r.clock) reads.now) }
+    {
+        for read in reads {
+            self.add_edge(&read.clock)?;
+        }
+        Ok(())
+    }
+
+    /// The pins of the write ports but for their clocks.
     fn add_writes(&mut self, writes: &'c [CellWrite]) -> Result<(), NoMemory>
         ensures { OnOk result (self.new ≡ self.old ++ flat_map write_pins writes.now) }
     {
@@ -188,7 +272,7 @@ impl<'c> Pins<'c> {
         Ok(())
     }
 
-    /// The pins of the read ports.
+    /// The pins of the read ports but for their clocks.
     fn add_reads(&mut self, reads: &'c [CellRead]) -> Result<(), NoMemory>
         ensures { OnOk result (self.new ≡ self.old ++ flat_map read_pins reads.now) }
     {

@@ -13,64 +13,60 @@ use crate::cell::Cell;
 use crate::fault::CellFault;
 use crate::judge::{is_within_limits, tables_are_sized};
 use crate::kinds::written_from;
-use crate::members::{ShapeFault, items_member};
 use crate::pins::Pins;
 use crate::table::CellTable;
 use crate::written::WrittenCell;
 use emu_io::NoMemory;
 use id_arena::{Arena, ArenaFault, CellId, Names};
+use json_members::{ShapeFault, array_member, read_json, word_member};
 use serde_json::Value;
 use std::alloc::Global;
 
-/// Reads a cell table: a JSON object with the version 1 and a list of cells.
+/// Reads a cell table: a JSON object with the version 1 or 2 and a list of cells.
 ///
 /// Ok is the table that the text stands for. The refusals come in the order of [`CellFault`].
 pub fn read_cells(alloc: Global, bytes: &[u8]) -> Result<CellTable, CellFault>
     ensures { Stands bytes.now result }
 {
-    match Value::from_slice(alloc, bytes) {
-        Ok(value) => table_from(alloc, &value),
-        Err(error) => {
-            if error.is_memory() {
-                Err(CellFault::NoMemory)
-            } else {
-                Err(CellFault::NotJson)
-            }
-        }
-    }
+    let value = read_json(alloc, bytes)?;
+    table_from(alloc, &value)
 }
 
 /// The table that a JSON value stands for.
 fn table_from(alloc: Global, value: &Value) -> Result<CellTable, CellFault>
     ensures { ValueStands (view value.now) result }
 {
-    if !is_version_one(value) {
+    let Some(version) = known_version(value) else {
         return Err(CellFault::Version);
-    }
-    match items_member(value, "cells") {
-        Ok(items) => cells_from(alloc, items),
-        Err(ShapeFault::BadShape) => Err(CellFault::BadShape { cell: None }),
-        Err(ShapeFault::NoMemory) => Err(CellFault::NoMemory),
+    };
+    match array_member(value, "cells") {
+        Some(items) => cells_from(alloc, version, items),
+        None => Err(CellFault::BadShape { cell: None }),
     }
 }
 
-/// Whether the member `version` is the number 1.
+/// The version of a table, if it is 1 or 2.
 #[tactic(auto, unfolding(crate::specs::Table::version_of))]
-fn is_version_one(value: &Value) -> bool
-    ensures { IsTrue result ↔ (version_of (view value.now) ≡ Some 1) }
+fn known_version(value: &Value) -> Option<u32>
+    ensures { result ≡ version_of (view value.now) }
 {
-    value.get("version").and_then(Value::as_u64) == Some(1)
+    let version = word_member(value, "version")?;
+    if version == 1 || version == 2 {
+        Some(version)
+    } else {
+        None
+    }
 }
 
 /// The table of the cells that the values of a list are.
-fn cells_from(alloc: Global, values: &[Value]) -> Result<CellTable, CellFault>
+fn cells_from(alloc: Global, version: u32, values: &[Value]) -> Result<CellTable, CellFault>
     requires { length values.now ≤ item_limit }
-    ensures { ListStands (map view values.now) result }
+    ensures { ListStands version (map view values.now) result }
 {
     let mut cells = Arena::new(alloc);
     let mut names = Names::new(alloc);
     for value in values {
-        let cell = judged_cell(alloc, value, &names)?;
+        let cell = judged_cell(alloc, version, value, &names)?;
         keep(&mut cells, &mut names, cell)?;
     }
     Ok(CellTable::from_parts(cells, names))
@@ -97,19 +93,19 @@ fn keep(cells: &mut Arena<CellId, Cell>, names: &mut Names, cell: Cell) -> Resul
 }
 
 /// The cell that a JSON value says, judged beside the cells before it, which have these names.
-fn judged_cell(alloc: Global, value: &Value, names: &Names) -> Result<Cell, CellFault>
-    ensures judged { Judges (cell_fault names.now (view value.now)) result }
-    ensures cell { IfOk result (λ cell. cell_of (view value.now) ≡ Some cell) }
+fn judged_cell(alloc: Global, version: u32, value: &Value, names: &Names) -> Result<Cell, CellFault>
+    ensures judged { Judges (cell_fault version names.now (view value.now)) result }
+    ensures cell { IfOk result (λ cell. cell_of version (view value.now) ≡ Some cell) }
     ensures sound { IfOk result (λ cell. IsSoundKind cell.kind) }
     ensures new { IfOk result (λ cell. place_among names.now cell.name ≡ None) }
 {
     let cell = Some(names.len());
-    let written = match written_from(alloc, value) {
+    let written = match written_from(alloc, version, value) {
         Ok(written) => written,
         Err(ShapeFault::BadShape) => return Err(CellFault::BadShape { cell }),
         Err(ShapeFault::NoMemory) => return Err(CellFault::NoMemory),
     };
-    if let Some(fault) = fault_of(alloc, &written, names)? {
+    if let Some(fault) = fault_of(alloc, version, &written, names)? {
         return Err(fault);
     }
     Ok(cell_from(alloc, written)?)
@@ -119,14 +115,16 @@ fn judged_cell(alloc: Global, value: &Value, names: &Names) -> Result<Cell, Cell
 #[tactic(auto, unfolding(crate::specs::Faults::written_fault))]
 fn fault_of(
     alloc: Global,
+    version: u32,
     written: &WrittenCell,
     names: &Names,
 ) -> Result<Option<CellFault>, NoMemory>
-    ensures { IfOk result (λ fault. fault ≡ written_fault names.now written.now) }
+    ensures { IfOk result (λ fault. fault ≡ written_fault version names.now written.now) }
 {
     let cell = names.len();
-    let pins = Pins::of(alloc, &written.kind)?;
-    if pins.has_twice(alloc)? {
+    let pins = Pins::of(alloc, version, &written.kind)?;
+    let shared = Pins::shared(alloc, version, &written.kind)?;
+    if pins.stand_twice(alloc, &shared)? {
         return Ok(Some(CellFault::PinTwice { cell }));
     }
     if !tables_are_sized(&written.kind) {

@@ -33,9 +33,12 @@ const SHOWN: [(&str, &str); 8] = [
     ("NAND2", "comb A+B Y:7"),
     (
         "RAM2",
-        "memory 1 2, write CKA/ WA=true AA DA, write CKB/ WB=true AB DB, read AR QR",
+        "memory 1 2, write CKA/ WA=true AA DA, write CKB/ WB=true AB DB, read none AR QR",
     ),
-    ("RAM0", "memory 0 128, write CK/ none none D, read none Q"),
+    (
+        "RAM0",
+        "memory 0 128, write CK/ none none D, read none none Q",
+    ),
 ];
 
 #[test]
@@ -51,8 +54,22 @@ fn reads_each_kind(rt: HostRuntime) -> Result<(), Fail> {
     Ok(())
 }
 
+#[test]
+fn reads_clocks_of_read_ports_in_version_two_alone(rt: HostRuntime) -> Result<(), Fail> {
+    let alloc = rt.alloc();
+    for (version, reads) in [(1, "read none none Q"), (2, "read CK\\ none Q")] {
+        let text = format!(in alloc;
+            "{{\"version\":{version},\"cells\":[{{\"name\":\"S\",\"kind\":\"memory\",\"address_bits\":0,\"width\":1,\"writes\":[{{\"clock\":{{\"pin\":\"CK\",\"edge\":\"rise\"}},\"data\":\"D\"}}],\"reads\":[{{\"clock\":{{\"pin\":\"CK\",\"edge\":\"fall\"}},\"data\":\"Q\"}}]}}]}}"
+        )?;
+        let table = read_cells(alloc, text.as_bytes())?;
+        let expected = format!(in alloc; "memory 0 1, write CK/ none none D, {reads}")?;
+        assert_eq!(rt; shown(alloc, &table, "S")?.as_str(), expected.as_str());
+    }
+    Ok(())
+}
+
 /// Texts, and the fault that each must get.
-const REFUSED: [(&str, Option<CellFault>); 27] = [
+const REFUSED: [(&str, Option<CellFault>); 38] = [
     ("{\"version\":1,\"cells\":[]}", None),
     (
         "{\"note\":3,\"cells\":[],\"version\":2,\"version\":1}",
@@ -62,7 +79,7 @@ const REFUSED: [(&str, Option<CellFault>); 27] = [
     ("{\"version\":1,\"cells\":1e0{}]}", Some(CellFault::NotJson)),
     ("[]", Some(CellFault::Version)),
     ("{\"cells\":[]}", Some(CellFault::Version)),
-    ("{\"version\":2,\"cells\":[]}", Some(CellFault::Version)),
+    ("{\"version\":2,\"cells\":[]}", None),
     ("{\"version\":\"D\",\"cells\":3}", Some(CellFault::Version)),
     ("{\"version\":1.0,\"cells\":[]}", Some(CellFault::Version)),
     ("{\"version\":1}", Some(CellFault::BadShape { cell: None })),
@@ -133,6 +150,47 @@ const REFUSED: [(&str, Option<CellFault>); 27] = [
     (
         "{\"version\":1,\"cells\":[{\"name\":\"C\",\"kind\":\"memory\",\"address_bits\":0,\"width\":1,\"writes\":[{\"clock\":{\"pin\":\"K\",\"edge\":\"rise\"},\"data\":\"D\"}],\"reads\":[{\"data\":\"R\",\"clock\":{\"pin\":\"K\",\"edge\":\"fall\"}},{\"data\":\"R\"}]}]}",
         Some(CellFault::PinTwice { cell: 0 }),
+    ),
+    (
+        "{\"version\":3,\"cells\":[{\"name\":\"S\",\"kind\":\"memory\",\"address_bits\":0,\"width\":1,\"writes\":[{\"clock\":{\"pin\":\"CK\",\"edge\":\"rise\"},\"data\":\"D\"}],\"reads\":[{\"data\":\"Q\"}]}]}",
+        Some(CellFault::Version),
+    ),
+    ("{\"version\":0,\"cells\":3}", Some(CellFault::Version)),
+    (
+        "{\"version\":2,\"cells\":3}",
+        Some(CellFault::BadShape { cell: None }),
+    ),
+    (
+        "{\"version\":2,\"cells\":[{\"name\":\"S\",\"kind\":\"memory\",\"address_bits\":0,\"width\":1,\"writes\":[{\"clock\":{\"pin\":\"CK\",\"edge\":\"rise\"},\"data\":\"D\"}],\"reads\":[{\"clock\":{\"pin\":\"CK\",\"edge\":\"rise\"},\"data\":\"Q\"},{\"clock\":{\"pin\":\"CK\",\"edge\":\"fall\"},\"data\":\"R\"}]}]}",
+        None,
+    ),
+    (
+        "{\"version\":2,\"cells\":[{\"name\":\"S\",\"kind\":\"memory\",\"address_bits\":0,\"width\":1,\"writes\":[{\"clock\":{\"pin\":\"CK\",\"edge\":\"rise\"},\"data\":\"D\"},{\"clock\":{\"pin\":\"CK\",\"edge\":\"fall\"},\"data\":\"E\"}],\"reads\":[]}]}",
+        None,
+    ),
+    (
+        "{\"version\":1,\"cells\":[{\"name\":\"S\",\"kind\":\"memory\",\"address_bits\":0,\"width\":1,\"writes\":[{\"clock\":{\"pin\":\"CK\",\"edge\":\"rise\"},\"data\":\"D\"},{\"clock\":{\"pin\":\"CK\",\"edge\":\"fall\"},\"data\":\"E\"}],\"reads\":[]}]}",
+        Some(CellFault::PinTwice { cell: 0 }),
+    ),
+    (
+        "{\"version\":2,\"cells\":[{\"name\":\"S\",\"kind\":\"memory\",\"address_bits\":0,\"width\":1,\"writes\":[{\"clock\":{\"pin\":\"CK\",\"edge\":\"rise\"},\"data\":\"D\"}],\"reads\":[{\"clock\":{\"pin\":\"D\",\"edge\":\"rise\"},\"data\":\"Q\"}]}]}",
+        Some(CellFault::PinTwice { cell: 0 }),
+    ),
+    (
+        "{\"version\":2,\"cells\":[{\"name\":\"S\",\"kind\":\"memory\",\"address_bits\":0,\"width\":1,\"writes\":[{\"clock\":{\"pin\":\"CK\",\"edge\":\"rise\"},\"data\":\"D\"}],\"reads\":[{\"clock\":{\"pin\":\"Q\",\"edge\":\"rise\"},\"data\":\"Q\"}]}]}",
+        Some(CellFault::PinTwice { cell: 0 }),
+    ),
+    (
+        "{\"version\":2,\"cells\":[{\"name\":\"S\",\"kind\":\"memory\",\"address_bits\":0,\"width\":1,\"writes\":[{\"clock\":{\"pin\":\"CK\",\"edge\":\"rise\"},\"data\":\"D\"}],\"reads\":[{\"clock\":{\"pin\":\"CK\"},\"data\":\"Q\"}]}]}",
+        Some(CellFault::BadShape { cell: Some(0) }),
+    ),
+    (
+        "{\"version\":2,\"cells\":[{\"name\":\"S\",\"kind\":\"memory\",\"address_bits\":0,\"width\":1,\"writes\":[{\"clock\":{\"pin\":\"CK\",\"edge\":\"rise\"},\"data\":\"D\"}],\"reads\":[{\"clock\":null,\"data\":\"Q\"}]}]}",
+        Some(CellFault::BadShape { cell: Some(0) }),
+    ),
+    (
+        "{\"version\":1,\"cells\":[{\"name\":\"S\",\"kind\":\"memory\",\"address_bits\":0,\"width\":1,\"writes\":[{\"clock\":{\"pin\":\"CK\",\"edge\":\"rise\"},\"data\":\"D\"}],\"reads\":[{\"clock\":null,\"data\":\"Q\"}]}]}",
+        None,
     ),
 ];
 
@@ -248,8 +306,9 @@ fn shown_ports(
         text.push_str(&port)?;
     }
     for read in reads {
+        let clock = optional_edge(alloc, &read.clock)?;
         let (address, bits) = (optional(&read.address), word(&read.bits));
-        let port = format!(in alloc; ", read {address} {bits}")?;
+        let port = format!(in alloc; ", read {clock} {address} {bits}")?;
         text.push_str(&port)?;
     }
     Ok(text)
@@ -279,6 +338,13 @@ fn joined(alloc: Global, names: &[Text]) -> Result<String, AllocError> {
 fn edge(alloc: Global, pin: &EdgePin) -> Result<String, AllocError> {
     let sign = if pin.rise { '/' } else { '\\' };
     format!(in alloc; "{}{sign}", word(&pin.pin))
+}
+
+fn optional_edge(alloc: Global, pin: &Option<EdgePin>) -> Result<String, AllocError> {
+    match pin {
+        Some(pin) => edge(alloc, pin),
+        None => String::from_str(alloc, "none"),
+    }
 }
 
 fn level(alloc: Global, pin: &Option<LevelPin>) -> Result<String, AllocError> {

@@ -1,4 +1,5 @@
 -- The text that names no group, as {"groups":[]}.
+-- The rule is told in docs/FORMATS.md, "Groups".
 use Rattle.std.specs.Prelude.{◌≡◌, ◌≢◌, ℕ, List, Some, Result, Ok, Err, codes, ⊤}
 use Rattle.serde_json.specs.Data.{Data, no_items}
 use Rattle.json_members.specs.JsonText.{IsTextOf}

@@ -1,4 +1,5 @@
 -- Which data a text is, and what the reader of texts answers.
+-- The rule is told in docs/FORMATS.md, "JSON texts".
 use Rattle.std.specs.Prelude.{◌≡◌, ℕ, List, Some, None, Result, Ok, Err, IsUtf8}
 use Rattle.serde_json.specs.Data.{Data}
 use Rattle.serde_json.specs.Read.{read}

@@ -1,2 +1,4 @@
 pub mod JsonText
 pub mod Members
+pub mod Shapes
+pub mod Names

@@ -1,7 +1,7 @@
-//! Numbers, lists and members of objects.
-ghost use Rattle.std.specs.Prelude.{◌≡◌, ◌≤◌, IfSome, option_map};
+//! Numbers, texts, lists and members of objects.
+ghost use Rattle.std.specs.Prelude.{◌≡◌, ◌≤◌, IfSome, length, option_map};
 ghost use Rattle.serde_json.specs.View.{view, items_view};
-ghost use Rattle.json_members.specs.Members.{array_member, number_member, number_of};
+ghost use Rattle.json_members.specs.Members.{array_member, array_of, number_member, number_of, text_member, word_member};
 
 use serde_json::Value;
 
@@ -32,18 +32,39 @@ pub fn word_of(value: &Value) -> Option<u32>
 
 /// The number of 32 bits that is an object's member under `key`.
 pub fn word_member(value: &Value, key: &str) -> Option<u32>
-    ensures { result ≡ number_member key.now 4294967295 (view value.now) }
+    ensures { result ≡ word_member key.now (view value.now) }
 {
     let number = number_member(value, key, 4_294_967_295)?;
     Some(number as u32)
 }
 
-/// The list that is an object's member under `key`.
-pub fn array_member<'v>(value: &'v Value, key: &str) -> Option<&'v [Value]>
-    ensures { option_map (λ items. items_view items.now) result
-        ≡ array_member key.now (view value.now) }
+/// The text that is an object's member under `key`.
+pub fn text_member<'v>(value: &'v Value, key: &str) -> Option<&'v str>
+    ensures { option_map (λ text. text.now) result ≡ text_member key.now (view value.now) }
 {
     let member = value.get(key)?;
-    let items = member.as_array()?;
+    member.as_str()
+}
+
+/// The list that a value is. A list of more than 4,294,967,295 items is none here, so that each item
+/// of a list has a number of 32 bits.
+pub fn array_of(value: &Value) -> Option<&[Value]>
+    ensures value { option_map (λ items. items_view items.now) result ≡ array_of (view value.now) }
+    ensures within { IfSome result (λ items. length items.now ≤ 4294967295) }
+{
+    let items = value.as_array()?;
+    if items.len() as u64 > u64::from(u32::MAX) {
+        return None;
+    }
     Some(items.as_slice())
+}
+
+/// The list that is an object's member under `key`.
+pub fn array_member<'v>(value: &'v Value, key: &str) -> Option<&'v [Value]>
+    ensures value { option_map (λ items. items_view items.now) result
+        ≡ array_member key.now (view value.now) }
+    ensures within { IfSome result (λ items. length items.now ≤ 4294967295) }
+{
+    let member = value.get(key)?;
+    array_of(member)
 }

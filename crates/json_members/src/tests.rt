@@ -1,5 +1,8 @@
 //! Each call once, at the edges of a number.
-use crate::{JsonFault, array_member, number_member, number_of, read_json, word_member, word_of};
+use crate::{
+    JsonFault, ShapeFault, array_member, array_of, name_member, name_of, names_member,
+    number_member, number_of, optional_name_member, read_json, text_member, word_member, word_of,
+};
 use std::test::Fail;
 
 #[test]
@@ -46,6 +49,7 @@ fn looks_up_members(rt: HostRuntime) -> Result<(), Fail> {
         assert!(rt; number_of(item, 2).is_some());
     }
     assert!(rt; array_member(&value, "a").is_none());
+    assert!(rt; array_of(&value).is_none());
     Ok(())
 }
 
@@ -59,5 +63,33 @@ fn refuses_what_is_no_json(rt: HostRuntime) -> Result<(), Fail> {
     assert!(rt;
         read_json(rt.alloc(), &[34, 255, 34]).is_err_and(|fault| fault == JsonFault::NotJson)
     );
+    Ok(())
+}
+
+#[test]
+fn reads_texts_and_names(rt: HostRuntime) -> Result<(), Fail> {
+    let alloc = rt.alloc();
+    let text = "{\"a\":\"x\",\"b\":\"\",\"c\":3,\"d\":[\"y\",\"\u{e9}\"],\"e\":[\"y\",\"\"]}";
+    let Ok(value) = read_json(alloc, text.as_bytes()) else {
+        assert!(rt; false, "refused");
+        return Ok(());
+    };
+    assert_eq!(rt; text_member(&value, "a"), Some("x"));
+    assert_eq!(rt; text_member(&value, "b"), Some(""));
+    assert_eq!(rt; text_member(&value, "c"), None);
+    assert!(rt; name_member(alloc, &value, "a").is_ok_and(|name| name.bytes() == b"x".as_slice()));
+    for key in ["b", "c", "f"] {
+        assert!(rt;
+            name_member(alloc, &value, key).is_err_and(|fault| fault == ShapeFault::BadShape),
+            "at {key}"
+        );
+    }
+    assert!(rt; name_of(alloc, &value).is_err_and(|fault| fault == ShapeFault::BadShape));
+    assert!(rt; optional_name_member(alloc, &value, "f").is_ok_and(|name| name.is_none()));
+    assert!(rt;
+        optional_name_member(alloc, &value, "b").is_err_and(|fault| fault == ShapeFault::BadShape)
+    );
+    assert!(rt; names_member(alloc, &value, "d").is_ok_and(|names| names.len() == 2));
+    assert!(rt; names_member(alloc, &value, "e").is_err_and(|fault| fault == ShapeFault::BadShape));
     Ok(())
 }

@@ -8,4 +8,4 @@ use Rattle.board_model.proofs.form.read_wires.Given as goal
 -- the wires so far, followed by those to come, are the wires of all
 abbrev pub invariant-wires : goal.invariant-wires
 invariant-wires l =
-    option_map (λ rest. l.wires ++ rest) (each wire_of (items_view (drop l.tree-index l.ends))) ≡ each wire_of (items_view l.ends)
+    option_map (λ rest. l.wires ++ rest) (each (wire_of l.version) (items_view (drop l.tree-index l.ends))) ≡ each (wire_of l.version) (items_view l.ends)

@@ -1,9 +1,9 @@
-use Rattle.std.proofs.Common.{◌≡◌, ◌++◌, map, drop, option_map}
-use Rattle.serde_json.specs.View.{view}
-use Rattle.cell_table.specs.Members.{all_of}
+use Rattle.std.proofs.Common.{◌≡◌, ◌++◌, drop, option_map}
+use Rattle.serde_json.specs.View.{items_view}
+use Rattle.json_members.specs.Members.{each}
 use Rattle.cell_table.specs.Kinds.{read_of}
 use Rattle.cell_table.proofs.kinds.reads_from.Given as goal
 
 abbrev pub invariant-loop-value : goal.invariant-loop-value
 invariant-loop-value l =
-    option_map (λ rest. l.reads ++ rest) (all_of (read_of l.address_bits) (map view (drop l.value-index l.values))) ≡ all_of (read_of l.address_bits) (map view l.values)
+    option_map (λ rest. l.reads ++ rest) (each (read_of l.version l.address_bits) (items_view (drop l.value-index l.values))) ≡ each (read_of l.version l.address_bits) (items_view l.values)

@@ -1,5 +1,6 @@
 use Rattle.std.proofs.Common.{◌≡◌, ◌++◌, drop, option_map}
-use Rattle.cell_table.specs.Members.{all_of, bit_of}
+use Rattle.json_members.specs.Members.{all_of}
+use Rattle.cell_table.specs.Members.{bit_of}
 use Rattle.cell_table.proofs.members.bits_from.Given as goal
 
 abbrev pub invariant-loop-character : goal.invariant-loop-character

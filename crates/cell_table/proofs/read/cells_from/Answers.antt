@@ -19,13 +19,13 @@ loop-value-preserved c =
     let within : i < length values = omega arith in
     let there : slice_get ds i ≡ Some (view value) =
     slice_get-map view values i ∙ ap (option_map view) (slice_get-get_or values i value within ∙ ap Some (sym c.value-item.is)) in
-    let sound : cell_fault (names_of c.loop-value.cells) (view value) ≡ None =
-    ap (λ names. cell_fault names (view value)) (sym c.loop-value.invariant.named) ∙ c.in_ok-cell.ensures.judged in
+    let sound : cell_fault c.args.version (names_of c.loop-value.cells) (view value) ≡ None =
+    ap (λ names. cell_fault c.args.version names (view value)) (sym c.loop-value.invariant.named) ∙ c.in_ok-cell.ensures.judged in
     let more : AreSound (c.loop-value.cells ++ c.in_ok-cell.cell ∷ []) = AreSound-push c.loop-value.cells c.in_ok-cell.cell c.loop-value.invariant.sound c.in_ok-cell.ensures.sound in
-    let P : List Cell → Type 0 = λ cells. IsTable (take (i + 1) ds) cells in
+    let P : List Cell → Type 0 = λ cells. IsTable c.args.version (take (i + 1) ds) cells in
     record {
       table = subst P (sym c.in_ok-keep.ensures.cells)
-          (IsTable-more ds c.loop-value.cells i (view value) c.in_ok-cell.cell c.loop-value.invariant.table c.loop-value.invariant.count there sound c.in_ok-cell.ensures.cell);
+          (IsTable-more c.args.version ds c.loop-value.cells i (view value) c.in_ok-cell.cell c.loop-value.invariant.table c.loop-value.invariant.count there sound c.in_ok-cell.ensures.cell);
       named = c.in_ok-keep.ensures.names;
       count = rw (c.in_ok-keep.ensures.cells, length-append) (ap (λ n. n + 1) c.loop-value.invariant.count);
       sound = rw c.in_ok-keep.ensures.cells more;

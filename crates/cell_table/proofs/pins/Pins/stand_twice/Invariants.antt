@@ -4,7 +4,7 @@ use Rattle.std.specs.List.{list_any}
 use Rattle.std.specs.Borrow.{Bor}
 use Rattle.std.specs.HashSet.{contains}
 use Rattle.cell_table.specs.Pins.{has_twice}
-use Rattle.cell_table.proofs.pins.Pins.has_twice.Given as goal
+use Rattle.cell_table.proofs.pins.Pins.stand_twice.Given as goal
 
 abbrev pub invariant-loop-name : goal.invariant-loop-name
 invariant-loop-name l = record {

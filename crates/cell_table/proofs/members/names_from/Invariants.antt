@@ -1,8 +1,0 @@
-use Rattle.std.proofs.Common.{◌≡◌, ◌++◌, map, drop, option_map}
-use Rattle.serde_json.specs.View.{view}
-use Rattle.cell_table.specs.Members.{all_of, name_of}
-use Rattle.cell_table.proofs.members.names_from.Given as goal
-
-abbrev pub invariant-loop-value : goal.invariant-loop-value
-invariant-loop-value l =
-    option_map (λ rest. l.names ++ rest) (all_of name_of (map view (drop l.value-index l.values))) ≡ all_of name_of (map view l.values)
