@@ -1,9 +1,10 @@
 -- What a node depends on is a node of the design.
-use Rattle.std.proofs.Common.{◌≡◌, ◌+◌, ℕ, zero, suc, List, [], ◌∷◌, map, length, refl, arith}
+use Rattle.std.proofs.Common.{◌≡◌, ◌+◌, ℕ, zero, suc, List, [], ◌∷◌, ◌++◌, map, length, refl, arith}
 use Rattle.std.specs.Prelude.{Option, Some, None, slice_get}
 use Rattle.std.specs.List.{Contains, enumerate_from}
 use Rattle.id_arena.specs.declared.keys.NetId.{NetId}
 use Rattle.id_arena.specs.declared.keys.MemId.{MemId}
+use Rattle.design_core.specs.declared.element.Edge.{Edge}
 use Rattle.design_core.specs.declared.element.Element.{Element}
 use Rattle.design_core.specs.declared.element.Element.TheVariants as element
 use Rattle.design_core.specs.declared.element.Memory.{Memory}
@@ -14,9 +15,9 @@ use Rattle.design_core.specs.declared.element.Driver.TheVariants.{Constant, Inpu
 use Rattle.design_core.specs.declared.node.NodeId.{NodeId}
 use Rattle.design_core.specs.declared.node.NodeId.TheVariants.{Net, Write}
 use Rattle.design_core.specs.declared.parts.Parts.{Parts}
-use Rattle.design_core.specs.Design.{IsDesign, driver, element_reads, write_reads}
-use Rattle.design_core.specs.Dependency.{IsNode, dependencies, driver_needs, needs, needs_at, read_needs, read_needs_at, write_nodes, write_needs, write_needs_at, write_before}
-use Rattle.history_law.proofs.Ranges.{Each, InRange, each_both, each_in, within_each, element_within, write_within, read_within}
+use Rattle.design_core.specs.Design.{IsDesign, driver, element_reads, write_reads, clock_nets}
+use Rattle.design_core.specs.Dependency.{IsNode, dependencies, driver_needs, needs, needs_at, port_needs, read_needs, read_needs_at, write_nodes, write_needs, write_needs_at, write_before}
+use Rattle.history_law.proofs.Ranges.{Each, InRange, Within, each_both, each_in, within_each, within_left, element_within, write_within, read_within}
 
 nets_are_nodes : (p : Parts) (nets : List NetId) → Each (InRange p) (map Net nets) → Each (IsNode p) (map Net nets)
 nets_are_nodes p [] h = tt
@@ -41,12 +42,19 @@ module _ (p : Parts) (d : IsDesign p) where
   element_nodes k None at = tt
   element_nodes k (Some e) at = needs_are_nodes p e (nets_are_nodes p (element_reads e) (within_each p (element_reads e) (element_within p d k e at)))
 
+  -- what the bits of a port depend on, by whether it has a clock
+  bit_nodes : (m : MemId) (memory : Memory) → slice_get p.memories m.place ≡ Some memory → (address : List NetId) (clock : Option Edge) → Within p (clock_nets clock ++ address) → Each (IsNode p) (port_needs m memory address clock)
+  bit_nodes m memory at address None h =
+      each_both (IsNode p) (map Net address) (write_nodes m memory)
+      (nets_are_nodes p address (within_each p address h))
+      (ports_are_nodes p m memory at 0 memory.writes (omega arith))
+  bit_nodes m memory at address (Some edge) h =
+      nets_are_nodes p (edge.net ∷ []) (within_each p (edge.net ∷ []) (within_left p (edge.net ∷ []) address h))
+
   port_nodes : (m : MemId) (memory : Memory) → slice_get p.memories m.place ≡ Some memory → (r : ℕ) (o : Option ReadPort) → slice_get memory.reads r ≡ o → Each (IsNode p) (read_needs m memory o)
   port_nodes m memory at r None in_port = tt
   port_nodes m memory at r (Some port) in_port =
-      each_both (IsNode p) (map Net port.address) (write_nodes m memory)
-      (nets_are_nodes p port.address (within_each p port.address (read_within p d m.place r memory port at in_port)))
-      (ports_are_nodes p m memory at 0 memory.writes (omega arith))
+      bit_nodes m memory at port.address port.clock (read_within p d m.place r memory port at in_port)
 
   read_nodes : (m : MemId) (r : ℕ) (o : Option Memory) → slice_get p.memories m.place ≡ o → Each (IsNode p) (read_needs_at m o r)
   read_nodes m r None at = tt

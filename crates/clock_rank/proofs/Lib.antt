@@ -4,5 +4,6 @@ pub mod Closed
 pub mod Steps
 pub mod Relating
 pub mod Ordered
+pub mod Rounds
 pub mod Resting
 pub mod Ends

@@ -9,6 +9,7 @@ use Rattle.std.proofs.lemmas.Option.{slice_get_within}
 use Rattle.id_arena.specs.declared.keys.NetId.{NetId}
 use Rattle.id_arena.specs.declared.keys.MemId.{MemId}
 use Rattle.id_arena.specs.declared.keys.ElemId.{ElemId}
+use Rattle.design_core.specs.declared.element.Edge.{Edge}
 use Rattle.design_core.specs.declared.element.Element.{Element}
 use Rattle.design_core.specs.declared.element.Level.{Level}
 use Rattle.design_core.specs.declared.element.Memory.{Memory}
@@ -22,7 +23,7 @@ use Rattle.design_core.specs.declared.parts.Parts.{Parts}
 use Rattle.design_core.specs.Design.{IsDesign, driver, reset_nets}
 use Rattle.design_core.specs.Limits.{IsWithin}
 use Rattle.history_law.specs.Drivers.{DriverIsElement, DriverIsReadBit}
-use Rattle.design_core.specs.Dependency.{IsNode, needs, needs_at, driver_needs, read_needs, read_needs_at, write_nodes, write_before, write_needs, write_needs_at}
+use Rattle.design_core.specs.Dependency.{IsNode, needs, needs_at, driver_needs, port_needs, read_needs, read_needs_at, write_nodes, write_before, write_needs, write_needs_at}
 use Rattle.clock_rank.specs.Numbers.{net_node, port_nodes, memory_nodes, all_nodes, first_write, number_of, row_of, AreStarts, IsThere}
 use Rattle.clock_rank.proofs.Counting.{before_more, few_nodes, start_fits}
 use Rattle.clock_rank.proofs.Numbering.{at_number, node_count, nodes_more, write_nodes_are}
@@ -53,12 +54,12 @@ read_row p m memory port =
     rw (map-append (number_of p) (map Net port.address) (write_nodes m memory), net_numbers p port.address, write_nodes_are m memory)
     (ap (λ rest. map (λ (n : NetId). n.place) port.address ++ rest) (write_numbers p m 0 (length memory.writes)))
 
--- the rows of a net's driver and of a read port, where the memory and the port are there
-pub read_needs_is : (p : Parts) (m : MemId) (r b : ℕ) (memory : Memory) (port : ReadPort)
-    → slice_get p.memories m.place ≡ Some memory → slice_get memory.reads r ≡ Some port
-    → driver_needs p (Read m r b) ≡ map Net port.address ++ write_nodes m memory
-read_needs_is p m r b memory port at in_port =
-    ap (λ o. read_needs_at m o r) at ∙ ap (read_needs m memory) in_port
+-- what a read bit depends on, where the memory and the port are there and have a clock or have none
+pub read_needs_is : (p : Parts) (m : MemId) (r b : ℕ) (memory : Memory) (port : ReadPort) (clock : Option Edge)
+    → slice_get p.memories m.place ≡ Some memory → slice_get memory.reads r ≡ Some port → port.clock ≡ clock
+    → driver_needs p (Read m r b) ≡ port_needs m memory port.address clock
+read_needs_is p m r b memory port clock at in_port is =
+    ap (λ o. read_needs_at m o r) at ∙ ap (read_needs m memory) in_port ∙ ap (port_needs m memory port.address) is
 
 -- the resets that are there
 pub reset_numbers : (clear preset : Option Level)
@@ -95,16 +96,24 @@ pub start_is : (p : Parts) (starts : List ℕ) → AreStarts p (length p.memorie
     → get_or starts n 0 ≡ first_write p m
 start_is p starts s m n memory at same = rw same (s.each m (slice_get_within p.memories m memory at))
 
--- the needs of a read bit were added
+-- the needs of a bit of a port without a clock were added
 pub read_added : (p : Parts) (m : MemId) (r b : ℕ) (memory : Memory) (port : ReadPort)
-    → slice_get p.memories m.place ≡ Some memory → slice_get memory.reads r ≡ Some port
-    → (old mid new : List ℕ) (nets : List NetId) (start count : ℕ) → start ≡ first_write p m.place → count ≡ length memory.writes → nets ≡ port.address
-    → mid ≡ old ++ map (λ (n : NetId). n.place) nets → new ≡ mid ++ map (λ k. start + k) (range_with_len 0 count)
+    → slice_get p.memories m.place ≡ Some memory → slice_get memory.reads r ≡ Some port → port.clock ≡ None
+    → (old new : List ℕ) (start count : ℕ) → start ≡ first_write p m.place → count ≡ length memory.writes
+    → new ≡ old ++ map (λ (n : NetId). n.place) port.address ++ map (λ k. start + k) (range_with_len 0 count)
     → new ≡ old ++ map (number_of p) (driver_needs p (Read m r b))
-read_added p m r b memory port at in_port old mid new nets start count s c same is added =
+read_added p m r b memory port at in_port none old new start count s c added =
     let both : new ≡ old ++ (map (λ (n : NetId). n.place) port.address ++ map (λ k. first_write p m.place + k) (range_with_len 0 (length memory.writes))) =
-    rw (added, is, s, c, same) (append_assoc old (map (λ (n : NetId). n.place) port.address) (map (λ k. first_write p m.place + k) (range_with_len 0 (length memory.writes)))) in
-    both ∙ ap (λ xs. old ++ xs) (sym (read_row p m memory port)) ∙ ap (λ xs. old ++ map (number_of p) xs) (sym (read_needs_is p m r b memory port at in_port))
+    rw (added, s, c) (append_assoc old (map (λ (n : NetId). n.place) port.address) (map (λ k. first_write p m.place + k) (range_with_len 0 (length memory.writes)))) in
+    both ∙ ap (λ xs. old ++ xs) (sym (read_row p m memory port)) ∙ ap (λ xs. old ++ map (number_of p) xs) (sym (read_needs_is p m r b memory port None at in_port none))
+
+-- the needs of a bit of a port with a clock were added
+pub clocked_added : (p : Parts) (m : MemId) (r b : ℕ) (memory : Memory) (port : ReadPort) (edge : Edge)
+    → slice_get p.memories m.place ≡ Some memory → slice_get memory.reads r ≡ Some port → port.clock ≡ Some edge
+    → (old new : List ℕ) → new ≡ old ++ edge.net.place ∷ []
+    → new ≡ old ++ map (number_of p) (driver_needs p (Read m r b))
+clocked_added p m r b memory port edge at in_port is old new added =
+    added ∙ ap (λ xs. old ++ map (number_of p) xs) (sym (read_needs_is p m r b memory port (Some edge) at in_port is))
 
 -- the needs of an element were added
 pub element_added : (p : Parts) (driver : Driver) (id : ElemId) (e : Element) → driver ≡ Elem id → slice_get p.elements id.place ≡ Some e

@@ -1,5 +1,5 @@
 //! The laws of orders and cycles.
-ghost use Rattle.clock_rank.specs.Answers.{RanksAreUnique, OrdersAreSorted, RankedWhereNoCycle, CyclesAreUnranked};
+ghost use Rattle.clock_rank.specs.Answers.{CyclesAreUnranked, CyclesComeRound, OrdersAreSorted, RankedWhereNoCycle, RanksAreUnique};
 
 /// A node has at most one rank.
 pub fn ranks_are_unique()
@@ -19,4 +19,9 @@ pub fn ranked_where_no_cycle()
 /// A design of which a cycle is told is not ranked.
 pub fn cycles_are_unranked()
     ensures { CyclesAreUnranked }
+{}
+
+/// The first node of a cycle that is told rests on itself, directly or through others.
+pub fn cycles_come_round()
+    ensures { CyclesComeRound }
 {}

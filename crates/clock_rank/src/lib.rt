@@ -12,8 +12,12 @@ mod needs;
 mod numbers;
 mod ranked;
 
+pub use design_core::NodeId;
 pub use fault::RankFault;
-pub use laws::{cycles_are_unranked, orders_are_sorted, ranked_where_no_cycle, ranks_are_unique};
+pub use laws::{
+    cycles_are_unranked, cycles_come_round, orders_are_sorted, ranked_where_no_cycle,
+    ranks_are_unique,
+};
 pub use ranked::{Ranked, rank};
 
 #[cfg(test)]

@@ -5,7 +5,7 @@ ghost use Rattle.design_core.specs.Design.{net_count, reset_nets};
 ghost use Rattle.design_core.specs.Dependency.{needs, driver_needs, dependencies, IsNode};
 ghost use Rattle.clock_rank.specs.Numbers.{number_of, row_of, rows, all_nodes, AreStarts, IsThere};
 
-use design_core::{Design, Driver, Element, Level, NodeId};
+use design_core::{Design, Driver, Element, Level, NodeId, ReadPort};
 use emu_io::NoMemory;
 use graph_rank::Graph;
 use history_law::drivers::{driver_is_element, driver_is_read_bit};
@@ -141,7 +141,9 @@ fn add_reset(row: &mut Vec<u32>, reset: Option<Level>) -> Result<(), NoMemory>
     }
 }
 
-// Adds the numbers of the address nets of a read port, and of the write nodes of its memory.
+// Adds the numbers of the nodes on which the bits of a read port depend: its clock where it has one, else
+// its address nets and the write nodes of its memory.
+#[tactic(auto, using(crate::proofs::Steps::clocked_added))]
 fn add_read_needs(
     row: &mut Vec<u32>,
     design: &Design,
@@ -154,8 +156,33 @@ fn add_read_needs(
     ensures { OnOk result (row.new.items ≡ row.old.items ++ map (number_of design.now) (driver_needs design.now (Driver.Read m port 0))) }
 {
     let memory = design.mem(m);
-    add_nets(row, memory.reads.get(u64::from(port)).address.as_slice())?;
-    add_numbers(row, starts[m.place() as usize], memory.writes.len() as u32)?;
+    let read = memory.reads.get(u64::from(port));
+    match read.clock {
+        Some(edge) => {
+            row.push(edge.net.place())?;
+            Ok(())
+        }
+        None => {
+            let count = memory.writes.len() as u32;
+            add_word_needs(row, read, starts[m.place() as usize], count)?;
+            Ok(())
+        }
+    }
+}
+
+// Adds the numbers of the address nets of a read port, and so many numbers from that of the first write
+// node of its memory on.
+fn add_word_needs(
+    row: &mut Vec<u32>,
+    read: &ReadPort,
+    start: u32,
+    count: u32,
+) -> Result<(), NoMemory>
+    requires { start + count ≤ 4294967295 }
+    ensures { OnOk result (row.new.items ≡ row.old.items ++ map (λ n. n.place) read.now.address ++ map (λ k. start + k) (range_with_len 0 count)) }
+{
+    add_nets(row, read.address.as_slice())?;
+    add_numbers(row, start, count)?;
     Ok(())
 }
 

@@ -3,11 +3,11 @@ ghost use Rattle.std.specs.Prelude.{IsTrue};
 ghost use Rattle.design_core.specs.Limits.{IsCountable};
 
 use crate::{
-    RankFault, cycles_are_unranked, orders_are_sorted, rank, ranked_where_no_cycle,
-    ranks_are_unique,
+    NodeId, RankFault, cycles_are_unranked, cycles_come_round, orders_are_sorted, rank,
+    ranked_where_no_cycle, ranks_are_unique,
 };
 use design_core::{
-    Design, Element, Flop, Level, Memory, NetName, NodeId, Op, Parts, Port, ReadPort, Scope,
+    Design, Edge, Element, Flop, Level, Memory, NetName, Op, Parts, Port, ReadPort, Scope,
     WritePort,
 };
 use emu_io::{List, NoMemory, Text};
@@ -128,9 +128,9 @@ fn a_divider_has_an_order(rt: HostRuntime) -> Result<(), Fail> {
     Ok(())
 }
 
-// A memory of two words of one bit with two write ports and a read port: the clock is net 2, address
-// and data are net 3, and the read port shows net 4.
-fn memory(alloc: Global) -> Result<Memory, NoMemory> {
+// A memory of two words of one bit with two write ports and a read port: the write clock is net 2, address
+// and data are net 3, and the read port, which has this clock or none, shows net 4.
+fn memory(alloc: Global, clock: Option<Edge>) -> Result<Memory, NoMemory> {
     let mut writes = List::new(alloc);
     for rise in [true, false] {
         writes.push(WritePort {
@@ -146,6 +146,7 @@ fn memory(alloc: Global) -> Result<Memory, NoMemory> {
     }
     let mut reads = List::new(alloc);
     reads.push(ReadPort {
+        clock,
         address: nets(alloc, &[3])?,
         bits: nets(alloc, &[4])?,
     })?;
@@ -157,20 +158,35 @@ fn memory(alloc: Global) -> Result<Memory, NoMemory> {
     })
 }
 
-#[test]
-fn a_read_bit_stands_after_the_write_nodes(rt: HostRuntime) -> Result<(), Fail> {
-    let alloc = rt.alloc();
+// How many nodes of the design of one memory, whose read port has this clock or none, stand in this order
+// with these ranks, before the first that does not; none where there are more nodes or fewer.
+fn in_order(alloc: Global, clock: Option<Edge>, wanted: &[(NodeId, u32)]) -> Result<usize, Fail> {
     let mut elements = List::new(alloc);
     elements.push(Element::Memory(MemId::of(0)))?;
     let mut memories = List::new(alloc);
-    memories.push(memory(alloc)?)?;
+    memories.push(memory(alloc, clock)?)?;
     let names: [&[u8]; 5] = [b"zero", b"one", b"c", b"a", b"r"];
     let built = design(alloc, parts(alloc, &names, &[2, 3], elements, memories)?)?;
     let Ok(ranked) = rank(alloc, &built) else {
         return Err(Fail::new("no order"));
     };
+    if ranked.len() as usize != wanted.len() {
+        return Ok(0);
+    }
+    for (k, (wanted_node, its_rank)) in wanted.iter().enumerate() {
+        let node = ranked.at(k as u32);
+        ranked.stands();
+        if node != *wanted_node || ranked.rank_of(node) != *its_rank {
+            return Ok(k);
+        }
+    }
+    Ok(wanted.len())
+}
+
+#[test]
+fn a_read_bit_stands_after_the_write_nodes(rt: HostRuntime) -> Result<(), Fail> {
     let m = MemId::of(0);
-    for (k, (wanted, its_rank)) in [
+    let wanted = [
         (NodeId::Net(NetId::of(0)), 0),
         (NodeId::Net(NetId::of(1)), 0),
         (NodeId::Net(NetId::of(2)), 0),
@@ -178,22 +194,35 @@ fn a_read_bit_stands_after_the_write_nodes(rt: HostRuntime) -> Result<(), Fail> 
         (NodeId::Write(m, 0), 1),
         (NodeId::Write(m, 1), 2),
         (NodeId::Net(NetId::of(4)), 3),
-    ]
-    .iter()
-    .enumerate()
-    {
-        assert!(rt; k < ranked.len() as usize);
-        let node = ranked.at(k as u32);
-        assert_eq!(rt; node, *wanted);
-        ranked.stands();
-        assert_eq!(rt; ranked.rank_of(node), *its_rank);
-    }
+    ];
+    assert_eq!(rt; in_order(rt.alloc(), None, &wanted)?, 7);
+    Ok(())
+}
+
+#[test]
+fn a_clocked_read_bit_stands_after_its_clock_alone(rt: HostRuntime) -> Result<(), Fail> {
+    let m = MemId::of(0);
+    let clock = Edge {
+        net: NetId::of(2),
+        rise: true,
+    };
+    let wanted = [
+        (NodeId::Net(NetId::of(0)), 0),
+        (NodeId::Net(NetId::of(1)), 0),
+        (NodeId::Net(NetId::of(2)), 0),
+        (NodeId::Net(NetId::of(3)), 0),
+        (NodeId::Net(NetId::of(4)), 1),
+        (NodeId::Write(m, 0), 1),
+        (NodeId::Write(m, 1), 2),
+    ];
+    assert_eq!(rt; in_order(rt.alloc(), Some(clock), &wanted)?, 7);
     Ok(())
 }
 
 #[test]
 fn two_gates_in_a_ring_are_the_cycle(rt: HostRuntime) -> Result<(), Fail> {
     cycles_are_unranked();
+    cycles_come_round();
     ranked_where_no_cycle();
     let alloc = rt.alloc();
     let mut elements = List::new(alloc);

@@ -9,9 +9,10 @@ use Rattle.verilog_tree.specs.declared.source.Source.{Source}
 use Rattle.design_core.specs.Design.{port_bits}
 use Rattle.design_core.specs.Limits.{IsCountable, IsWithin}
 use Rattle.elaborator.specs.GateParts.{top_name}
+use Rattle.design_core.specs.Most.{most_elements}
 use Rattle.design_core.specs.declared.parts.Parts.{Parts}
 use Rattle.elaborator.specs.declared.gate_sketch.Sketch.{Sketch}
-use Rattle.elaborator.specs.GateDesign.{StandsFor}
+use Rattle.elaborator.specs.GateDesign.{StandsFor, most_names}
 use Rattle.elaborator.specs.GateNames.{AreDifferent, Name, first_uses, is_among, is_implicit, text_of, with_names}
 use Rattle.elaborator.specs.GateParts.{element_of, net_names, net_uses, own_names, own_scope, parts_of, port_of, terminals}
 use Rattle.elaborator.proofs.Joining.{few_names}
@@ -66,9 +67,9 @@ module _ (text : ℕ → Name) (implicit : ℕ → Bool) (top : Name) (header : 
   counted_parts d w =
       let nets : List Name = net_names text implicit header s in
       let own : List Name = map text (own_names s.primitives) in
-      let few : length nets ≤ 399998 = omega (arith, w.nets, length-map nets top_name) in
-      let ports : length (map text header) ≤ 399998 = omega (arith, few, ports_few d) in
-      let small : length s.primitives ≤ 200000 = omega (arith, w.elements, length-map s.primitives (element_of text nets)) in
+      let few : length nets ≤ most_names = omega (arith, w.nets, length-map nets top_name) in
+      let ports : length (map text header) ≤ most_names = omega (arith, few, ports_few d) in
+      let small : length s.primitives ≤ most_elements = omega (arith, w.elements, length-map s.primitives (element_of text nets)) in
       let ins : List Name = filter (is_among (map text s.inputs)) (map text header) in
       let outs : List Name = filter (is_among (map text s.outputs)) (map text header) in
       record {

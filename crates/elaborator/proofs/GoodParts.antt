@@ -10,8 +10,8 @@ use Rattle.id_arena.specs.Names.{place_among}
 use Rattle.id_arena.proofs.FirstPlaces.{place_among-Some}
 use Rattle.elaborator.specs.GateParts.{top_name}
 use Rattle.design_core.specs.Plain.{IsPlainOp}
-use Rattle.design_core.specs.Faults.{AreGood, element_good, inputs_fit, parent_earlier, ports_there, rest_good, scope_there, thing_good}
-use Rattle.design_core.specs.Design.{net_count}
+use Rattle.design_core.specs.Faults.{AreGood, element_good, parent_earlier, ports_there, rest_good, scope_there, thing_good}
+use Rattle.design_core.specs.Design.{inputs_fit, net_count}
 use Rattle.design_core.specs.declared.operation.Op.{Op}
 use Rattle.design_core.specs.declared.parts.NetName.{NetName}
 use Rattle.design_core.specs.declared.parts.Parts.{Parts}

@@ -4,13 +4,14 @@ use Rattle.std.specs.Prelude.{codes, filter}
 use Rattle.std.specs.List.{list_all}
 use Rattle.std.proofs.lemmas.List.{length-map, map-append}
 use Rattle.design_core.specs.Limits.{IsWithin, inputs_within, most_inputs}
+use Rattle.design_core.specs.Most.{most_elements}
 use Rattle.design_core.specs.declared.operation.Op.{Op}
 use Rattle.design_core.specs.declared.operation.Op.TheVariants.{Table}
 use Rattle.design_core.specs.declared.parts.Port.{Port}
 use Rattle.elaborator.specs.declared.gate_sketch.Primitive.{Primitive}
 use Rattle.elaborator.specs.declared.gate_sketch.Sketch.{Sketch}
 use Rattle.elaborator.specs.GateNames.{Name, first_uses, is_among, with_names}
-use Rattle.elaborator.specs.GateDesign.{numbers_of, parts_from}
+use Rattle.elaborator.specs.GateDesign.{most_names, numbers_of, parts_from}
 use Rattle.elaborator.specs.GateParts.{as_element, element_of, gate_of, net_names, own_names, own_scope, parts_of, parts_with, path_of, port_of, ports_among, terminals, top_name}
 use Rattle.elaborator.proofs.Uses.{first_uses-all, first_uses-append, is_among-first_uses}
 
@@ -43,7 +44,7 @@ gates_fit : (text : ℕ → Name) (nets : List Name) (ps : List Primitive) → l
 gates_fit text nets [] = refl
 gates_fit text nets (p ∷ ps) = λ i. one_fits p.op i && gates_fit text nets ps i
 
-pub within_limits : (text : ℕ → Name) (top : Name) (header : List ℕ) (s : Sketch) (nets own : List Name) → length nets ≤ 399998 → length s.primitives ≤ 200000 → IsWithin (parts_with text top header s nets own)
+pub within_limits : (text : ℕ → Name) (top : Name) (header : List ℕ) (s : Sketch) (nets own : List Name) → length nets ≤ most_names → length s.primitives ≤ most_elements → IsWithin (parts_with text top header s nets own)
 within_limits text top header s nets own few small =
     record {
       inputs = gates_fit text nets s.primitives;

@@ -1,11 +1,12 @@
 -- Which trees stand for which parts and designs: one module of `buf` and `not` gates.
 -- The rule is told in docs/FORMATS.md, "Flattening".
-use Rattle.std.specs.Prelude.{◌≡◌, ◌<◌, ◌≤◌, ℕ, Bool, false, IsTrue, Some, None, List, [], ◌∷◌, ◌++◌, codes, length, map, Result, Ok, Err}
+use Rattle.std.specs.Prelude.{◌-◌, ◌≡◌, ◌<◌, ◌≤◌, ℕ, Bool, false, IsTrue, Some, None, List, [], ◌∷◌, ◌++◌, codes, length, map, Result, Ok, Err}
 use Rattle.verilog_lex.specs.declared.token.Token.{Token}
 use Rattle.verilog_tree.specs.declared.source.Module.{Module}
 use Rattle.verilog_tree.specs.declared.source.Source.{Source}
 use Rattle.design_core.specs.Design.{IsDesign}
 use Rattle.design_core.specs.Limits.{IsWithin}
+use Rattle.design_core.specs.Most.{most_elements, most_nets}
 use Rattle.design_core.specs.Plain.{IsPlain}
 use Rattle.design_core.specs.declared.parts.Parts.{Parts}
 use Rattle.elaborator.specs.declared.fault.ElabFault.{ElabFault}
@@ -70,10 +71,14 @@ Judges holds (Ok done) = holds
 Judges holds (Err NotYet) = holds → ⊥
 Judges holds (Err NoMemory) = Unit {0}
 
+-- how many nets a module may have, two fewer than a design, which has the constants besides
+abbrev pub most_names : ℕ
+most_names = most_nets - 2
+
 -- the table of the nets, which are not too many
 abbrev pub NetTable : List Name → Result (List Name) ElabFault → Type 0
-NetTable names (Ok table) = (table ≡ names) × (length names ≤ 399998)
-NetTable names (Err NotYet) = 399998 < length names
+NetTable names (Ok table) = (table ≡ names) × (length names ≤ most_names)
+NetTable names (Err NotYet) = most_names < length names
 NetTable names (Err NoMemory) = Unit {0}
 
 -- names of primitives, which are all different, and none of which is a net
@@ -99,9 +104,9 @@ TablesAnswers text implicit header s (Ok tables) =
     AreNamed text implicit header s
     × (tables.nets ≡ net_names text implicit header s)
     × (tables.own ≡ map text (own_names s.primitives))
-    × (length (net_names text implicit header s) ≤ 399998)
+    × (length (net_names text implicit header s) ≤ most_names)
 TablesAnswers text implicit header s (Err NotYet) =
-    AreNamed text implicit header s → length (net_names text implicit header s) ≤ 399998 → ⊥
+    AreNamed text implicit header s → length (net_names text implicit header s) ≤ most_names → ⊥
 TablesAnswers text implicit header s (Err NoMemory) = Unit {0}
 
 -- what the tree lists, or, exactly where it lists nothing, that it is not read yet
@@ -127,8 +132,8 @@ numbers_of text implicit header s =
 
 -- a module has no more nets and primitives than a design may have
 pub record AreFew (text : ℕ → Name) (implicit : ℕ → Bool) (header : List ℕ) (s : Sketch) : Type 0 where
-  pub nets : length (net_names text implicit header s) ≤ 399998
-  pub primitives : length s.primitives ≤ 200000
+  pub nets : length (net_names text implicit header s) ≤ most_names
+  pub primitives : length s.primitives ≤ most_elements
 
 -- the numbers of a module whose names are right, where they are not too many
 abbrev pub NumbersAnswers : (ℕ → Name) → (ℕ → Bool) → List ℕ → Sketch → Result Numbers ElabFault → Type 0

@@ -1,7 +1,8 @@
 //! Reading a module of `buf` and `not` gates from its tree.
 
 ghost use Rattle.std.specs.Prelude.{◌↔◌, ◌≡◌, ◌≤◌, Some, filter, length, map, IfOk, IsTrue};
-ghost use Rattle.elaborator.specs.GateDesign.{AddsOwn, Answers, GateDesignsArePlain, Judges, ListsAnswers, NetTable, NumbersAnswers, OwnTable, PartsAnswers, TablesAnswers, TreesTellDesignsApart, numbers_by, parts_from};
+ghost use Rattle.design_core.specs.Most.{most_elements};
+ghost use Rattle.elaborator.specs.GateDesign.{AddsOwn, Answers, GateDesignsArePlain, Judges, ListsAnswers, NetTable, NumbersAnswers, OwnTable, PartsAnswers, TablesAnswers, TreesTellDesignsApart, most_names, numbers_by, parts_from};
 ghost use Rattle.elaborator.specs.GateNames.{AreDifferent, all_among, is_implicit, text_of};
 ghost use Rattle.elaborator.specs.GateParts.{ArePorts, net_names, own_names, ports_among, terminals};
 ghost use Rattle.elaborator.specs.GateSketch.{Reads};
@@ -157,7 +158,7 @@ fn ports_given(
     header: &[u32],
     given: &[u32],
 ) -> Result<List<Port>, ElabFault>
-    requires { length nets.now ≤ 399998 }
+    requires { length nets.now ≤ most_names }
     ensures { Reads (Some (ports_among nets.now (map (text_of source.now tokens.now) header.now) (map (text_of source.now tokens.now) given.now))) result }
 {
     let mut chosen = Names::new(alloc);
@@ -175,8 +176,8 @@ fn numbers_by(
     sketch: &Sketch,
     tables: Tables,
 ) -> Result<Numbers, ElabFault>
-    requires nets { length tables.nets ≤ 399998 }
-    requires few { length sketch.now.primitives ≤ 200000 }
+    requires nets { length tables.nets ≤ most_names }
+    requires few { length sketch.now.primitives ≤ most_elements }
     requires own { tables.own ≡ map (text_of source.now tokens.now) (own_names sketch.now.primitives) }
     requires different { AreDifferent tables.own }
     ensures { Reads (Some (numbers_by (text_of source.now tokens.now) header.now sketch.now tables)) result }

@@ -1,6 +1,8 @@
 //! The parts that a module of `buf` and `not` gates stands for.
 
 ghost use Rattle.std.specs.Prelude.{[], ◌++◌, ◌||◌, ◌≡◌, ◌≤◌, ◌∷◌, Some, None, codes, filter, filter_map, flat_map, length, map, IfOk, OnOk};
+ghost use Rattle.design_core.specs.Most.{most_elements};
+ghost use Rattle.elaborator.specs.GateDesign.{most_names};
 ghost use Rattle.elaborator.specs.GateNames.{all_among, is_among, is_declared, is_implicit, text_of};
 ghost use Rattle.elaborator.specs.GateParts.{as_element, gate_of, net_of, own_scope, port_of, ports_among, scopes_after, terminals, top_name};
 
@@ -89,7 +91,7 @@ pub(crate) fn are_declared(
 
 /// The net of a name; net 0 where no net has it.
 fn net_of(nets: &Names, text: &[u8]) -> NetId
-    requires { length nets.now ≤ 399998 }
+    requires { length nets.now ≤ most_names }
     ensures { result ≡ net_of nets.now text.now }
 {
     match nets.find(text) {
@@ -115,7 +117,7 @@ pub(crate) fn gate_list(
     nets: &Names,
     primitives: &[Primitive],
 ) -> Result<List<NumberedGate>, NoMemory>
-    requires { length nets.now ≤ 399998 }
+    requires { length nets.now ≤ most_names }
     ensures { IfOk result (λ gates. gates ≡ map (gate_of (text_of source.now tokens.now) nets.now) primitives.now) }
 {
     let mut gates = list_with_room(alloc, primitives.len())?;
@@ -147,7 +149,7 @@ pub(crate) fn elements(alloc: Global, gates: &[NumberedGate]) -> Result<List<Ele
 /// The scopes in which the paths of primitives end, where their names are all different: each that
 /// has a name has a scope of its own, in the order of the names.
 pub(crate) fn paths(alloc: Global, primitives: &[Primitive]) -> Result<List<u32>, NoMemory>
-    requires { length primitives.now ≤ 200000 }
+    requires { length primitives.now ≤ most_elements }
     ensures { IfOk result (λ paths. paths ≡ scopes_after 0 primitives.now) }
 {
     let mut paths = list_with_room(alloc, primitives.len())?;
@@ -207,7 +209,7 @@ pub(crate) fn scope_list(alloc: Global, top: &[u8], own: Names) -> Result<List<S
 
 /// A port of one net.
 fn port_of(alloc: Global, nets: &Names, text: &[u8]) -> Result<Port, NoMemory>
-    requires { length nets.now ≤ 399998 }
+    requires { length nets.now ≤ most_names }
     ensures { IfOk result (λ port. port ≡ port_of nets.now text.now) }
 {
     Ok(Port {
@@ -225,7 +227,7 @@ pub(crate) fn ports_among(
     header: &[u32],
     chosen: &Names,
 ) -> Result<List<Port>, NoMemory>
-    requires { length nets.now ≤ 399998 }
+    requires { length nets.now ≤ most_names }
     ensures { IfOk result (λ ports. ports ≡ ports_among nets.now (map (text_of source.now tokens.now) header.now) chosen.now) }
 {
     let mut ports = List::new(alloc);

@@ -21,15 +21,16 @@ RanksAreUnique = (rows : List (List ℕ)) (n j k : ℕ) → HasRank rows n j →
 abbrev pub RankingsAreSorted : Type 0
 RankingsAreSorted = (rows : List (List ℕ)) (r : Ranking) → IsRanking rows r → IsOrder rows r.order
 
--- where each node has a rank, no node depends on itself
+-- where each node has a rank, no node depends on itself, in one step or in more
 abbrev pub RankedHasNoCycle : Type 0
 RankedHasNoCycle = (rows : List (List ℕ)) → AllRanked rows → (n : ℕ) → Leads rows n n → ⊥
 
--- the first node of a cycle depends on itself, and has no rank
+-- the first node of a cycle depends on itself, in one step or in more
 abbrev pub CyclesComeRound : Type 0
 CyclesComeRound = (rows : List (List ℕ)) (cycle : List ℕ) → IsCycle rows cycle
     → Leads rows (slice_index cycle 0) (slice_index cycle 0)
 
--- where all named nodes are there and some node has no rank, some node depends on itself
+-- where all named nodes are there and some node has no rank, some node depends on itself, in one step or
+-- in more
 abbrev pub UnrankedHasCycle : Type 0
 UnrankedHasCycle = (rows : List (List ℕ)) (n : ℕ) → InRange rows → Unranked rows n → (m : ℕ) × Leads rows m m

@@ -16,12 +16,13 @@ pub fn ranked_has_no_cycle()
     ensures { RankedHasNoCycle }
 {}
 
-/// Where some node has no rank, some node depends on itself.
+/// Where all nodes that a graph names are there and some node has no rank, some node depends on itself, in
+/// one step or in more.
 pub fn unranked_has_cycle()
     ensures { UnrankedHasCycle }
 {}
 
-/// The nodes of a cycle depend on themselves.
+/// The first node of a cycle depends on itself, in one step or in more.
 pub fn cycles_come_round()
     ensures { CyclesComeRound }
 {}

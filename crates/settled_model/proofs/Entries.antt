@@ -1,5 +1,5 @@
 -- Tables of values, entry by entry.
-use Rattle.std.proofs.Common.{◌≡◌, ◌<◌, ◌+◌, ℕ, Bool, true, false, List, ◌∷◌, drop, length, get_or, refl, sym, ap, ◌∙◌, if◌then◌else◌}
+use Rattle.std.proofs.Common.{◌≡◌, ◌<◌, ◌+◌, ℕ, Bool, true, false, List, [], ◌∷◌, ◌++◌, take, drop, length, get_or, refl, sym, ap, ◌∙◌, if◌then◌else◌, arith}
 use Rattle.std.specs.Prelude.{◌==◌, ◌||◌, Option, Some, None, slice_set, slice_get, unwrap_or}
 use Rattle.std.specs.Option.{option_or}
 use Rattle.std.specs.List.{list_any}
@@ -9,8 +9,7 @@ use Rattle.design_core.specs.declared.element.Element.{Element}
 use Rattle.design_core.specs.declared.parts.Parts.{Parts}
 use Rattle.design_core.specs.declared.values.PortBit.{PortBit}
 use Rattle.design_core.specs.Event.{given}
-use Rattle.history_law.proofs.Lists.{no}
-use Rattle.history_law.proofs.Naming.{same_number, number_same}
+use Rattle.facts.proofs.Tests.{no, same_number, number_same}
 use Rattle.settled_model.specs.Passing.{is_state, is_state_at, HasSetOne}
 
 -- an entry is what was put there last
@@ -77,3 +76,13 @@ module _ (p : Parts) (ones : List ElemId) (i : ℕ) (id : ElemId) (e : Element) 
       ∙ or_moves (get_or before n false) (is_state n e) (among n (drop (i + 1) ones))
       ∙ ap (λ b. get_or before n false || (b || among n (drop (i + 1) ones))) (sym (ap (is_state_at n) at))
       ∙ ap (λ ids. get_or before n false || among n ids) (sym (drop_more ones i id low ∙ ap (λ x. x ∷ drop (i + 1) ones) (sym here)))
+
+-- what stands in a whole table that was written is what was written
+pub whole : {A : Type 0} (new old : List A) (n : ℕ) → n ≡ length old → length new ≡ length old → take n (new ++ drop (length new) old) ≡ new
+whole new old n e f =
+    ap (λ (k : ℕ). take k (new ++ drop (length new) old)) (e ∙ sym f) ∙ go new old f
+  where
+    go : {A : Type 0} (new old : List A) → length new ≡ length old → take (length new) (new ++ drop (length new) old) ≡ new
+    go [] old f = refl
+    go (x ∷ new) [] f = absurd (omega arith)
+    go (x ∷ new) (y ∷ old) f = ap (λ zs. x ∷ zs) (go new old (omega arith))

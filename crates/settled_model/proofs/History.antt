@@ -7,7 +7,7 @@ use Rattle.std.proofs.lemmas.Nat.{pow_pos}
 use Rattle.std.proofs.lemmas.Option.{same_Some}
 use Rattle.design_core.specs.declared.element.Memory.{Memory}
 use Rattle.design_core.specs.declared.parts.Parts.{Parts}
-use Rattle.history_law.proofs.Naming.{number_same}
+use Rattle.facts.proofs.Tests.{number_same}
 use Rattle.one_history.proofs.Alone.{one_history}
 use Rattle.settled_model.specs.declared.opening.OpenWord.{OpenWord}
 use Rattle.settled_model.specs.Opening.{IsWord, word_given}

@@ -12,8 +12,7 @@ use Rattle.design_core.specs.declared.element.Memory.{Memory}
 use Rattle.design_core.specs.declared.parts.Parts.{Parts}
 use Rattle.design_core.specs.Limits.{word_count}
 use Rattle.design_core.specs.Valuation.{IsAddress}
-use Rattle.history_law.proofs.Lists.{no}
-use Rattle.history_law.proofs.Naming.{same_number, number_same}
+use Rattle.facts.proofs.Tests.{no, same_number, number_same}
 use Rattle.settled_model.specs.declared.opening.OpenWord.{OpenWord}
 use Rattle.settled_model.specs.Held.{size_of, first_word, word_in}
 use Rattle.settled_model.specs.Opening.{word_given, IsWord, AreWords}

@@ -1,6 +1,6 @@
 -- So many nodes of the order have had their turn.
 use Rattle.std.proofs.Common.{◌≡◌, ◌<◌, ◌≤◌, ◌+◌, ◌^◌, ◌⊎◌, ℕ, zero, suc, Bool, false, List, [], ◌∷◌, take, length, get_or, refl, sym, ap, subst, ◌∙◌, inl, inr, arith}
-use Rattle.std.specs.Prelude.{Some, slice_get, slice_set, Contains}
+use Rattle.std.specs.Prelude.{Some, None, slice_get, slice_set, Contains}
 use Rattle.std.proofs.lemmas.Bool.{cases_eq, cases_lt}
 use Rattle.std.proofs.lemmas.List.{length-set, get_or-set_same, get_or-set_other, length-take-le}
 use Rattle.std.proofs.lemmas.Option.{none-some, slice_get_within, same_Some, slice_get-get_or}
@@ -8,6 +8,7 @@ use Rattle.std.proofs.Math.Seq.{take-length}
 use Rattle.id_arena.specs.declared.keys.NetId.{NetId}
 use Rattle.id_arena.specs.declared.keys.MemId.{MemId}
 use Rattle.design_core.specs.declared.element.Memory.{Memory}
+use Rattle.design_core.specs.declared.element.ReadPort.{ReadPort}
 use Rattle.design_core.specs.declared.element.WritePort.{WritePort}
 use Rattle.design_core.specs.declared.element.Driver.TheVariants.{Read}
 use Rattle.design_core.specs.declared.node.NodeId.{NodeId}
@@ -23,7 +24,6 @@ use Rattle.settled_model.specs.declared.turn.Turn.TheVariants.{Opening, Event}
 use Rattle.settled_model.specs.Held.{shown, word_in}
 use Rattle.settled_model.specs.Passing.{driver_value, written_in, HasStored, HasRenewed, AreRenewed, IsOrder}
 use Rattle.settled_model.proofs.Passes.{gives_same, same_inputs, same_words, needs_clock, needs_before, needs_writes}
-use Rattle.settled_model.proofs.Sizes.{bit_named, IsBit}
 use Rattle.settled_model.proofs.Stores.{stored_other, stored_more, stored_size, written_clocks}
 
 -- a node stands among the first so many
@@ -242,19 +242,17 @@ module _ (p : Parts) (d : IsDesign p) (order : List NodeId) (o : IsOrder p order
       | inr before ↦ before
     ]
 
-    -- a read bit that had its turn is of another memory
-    read_stays : (n : NetId) → HadTurn order count (Net n) → (l : MemId) (r b : ℕ) (other : Memory) (a : ℕ) → driver p n.place ≡ Read l r b → slice_get p.memories l.place ≡ Some other → a < 2 ^ other.address_bits → word_in p words l.place a ≡ word_in p rest l.place a
-    read_stays n had l r b other a e here low =
+    -- a bit of a read port without a clock that had its turn is of another memory
+    read_stays : (n : NetId) → HadTurn order count (Net n) → (l : MemId) (r b : ℕ) (other : Memory) (read : ReadPort) (a : ℕ) → driver p n.place ≡ Read l r b → slice_get p.memories l.place ≡ Some other → slice_get other.reads r ≡ Some read → read.clock ≡ None → a < 2 ^ other.address_bits → word_in p words l.place a ≡ word_in p rest l.place a
+    read_stays n had l r b other read a e here in_read none low =
         other_stays l.place a (other, here, low) (λ same. not_needed (Write m k) (Net n) at (later (Net n) had) (needed same))
       where
         needed : m.place ≡ l.place → Contains (dependencies p (Net n)) (Write m k)
         needed same =
-            let bit : IsBit p l.place r b = bit_named p n.place l r b e in
-            let mine : bit.memory ≡ memory = same_Some bit.memory memory (sym bit.at ∙ ap (slice_get p.memories) (sym same) ∙ node.1) in
-            let reads : r < length bit.memory.reads = slice_get_within bit.memory.reads r bit.port bit.in_port in
-            let writes : slice_get bit.memory.writes k ≡ Some port = ap (λ (x : Memory). slice_get x.writes k) mine ∙ in_port in
+            let mine : other ≡ memory = same_Some other memory (sym here ∙ ap (slice_get p.memories) (sym same) ∙ node.1) in
+            let writes : slice_get other.writes k ≡ Some port = ap (λ (x : Memory). slice_get x.writes k) mine ∙ in_port in
             subst (λ (x : MemId). Contains (dependencies p (Net n)) (Write x k)) (sym (same_mem m l same))
-            (needs_writes p n.place l r b k bit.memory port e bit.at reads writes)
+            (needs_writes p n.place l r b k other read port e here in_read none writes)
 
     done_still : (n : NetId) → HadTurn order (count + 1) (Net n) → get_or new n.place false ≡ driver_value p turn (shown start).net (word_in p rest) (shown old) (shown new) n.place (driver p n.place)
     done_still n had =

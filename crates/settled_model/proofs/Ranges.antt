@@ -14,7 +14,8 @@ use Rattle.design_core.specs.Design.{IsDesign, net_count, driver, element_reads}
 use Rattle.design_core.specs.Faults.{are_there, is_there, element_outputs}
 use Rattle.design_core.specs.Limits.{IsWithin, inputs_within}
 use Rattle.design_core.proofs.Bounds.{every}
-use Rattle.history_law.proofs.Naming.{same_number, element_is_driver, driver_is_element}
+use Rattle.facts.proofs.Tests.{same_number}
+use Rattle.history_law.proofs.Naming.{element_is_driver, driver_is_element}
 use Rattle.history_law.proofs.Ranges.{Each, InRange, within_each, element_within}
 
 module _ (p : Parts) where

@@ -10,7 +10,7 @@ use Rattle.design_core.specs.Design.{IsDesign}
 use Rattle.design_core.specs.Limits.{word_count}
 use Rattle.design_core.specs.Valuation.{Valuation, shown_number, IsAddress}
 use Rattle.design_core.specs.Event.{stores, written}
-use Rattle.history_law.proofs.Naming.{same_number, number_same}
+use Rattle.facts.proofs.Tests.{same_number, number_same}
 use Rattle.history_law.proofs.Afterwards.{written_same}
 use Rattle.settled_model.specs.declared.turn.Turn.{Turn}
 use Rattle.settled_model.specs.declared.turn.Turn.TheVariants.{Opening, Event}

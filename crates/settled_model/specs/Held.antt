@@ -4,7 +4,8 @@ use Rattle.std.specs.Prelude.{◌≡◌, ◌+◌, ◌≤◌, ◌^◌, ℕ, Bool,
 use Rattle.std.specs.List.{sum_by}
 use Rattle.design_core.specs.declared.element.Memory.{Memory}
 use Rattle.design_core.specs.declared.parts.Parts.{Parts}
-use Rattle.design_core.specs.Valuation.{Valuation}
+use Rattle.design_core.specs.Settled.{IsSettled}
+use Rattle.design_core.specs.Valuation.{Valuation, WordsFit}
 
 -- the valuation that a table of values of nets shows, where no word counts
 abbrev pub shown : List Bool → Valuation
@@ -37,3 +38,8 @@ pub record Held : Type 0 where
 
 abbrev pub valuation : Held → Valuation
 valuation h = holding h.parts h.nets h.words
+
+-- the valuation is settled, and its words are below 2 to the width of their memory
+pub record Stands (p : Parts) (v : Valuation) : Type 0 where
+  pub settled : IsSettled p v
+  pub words_fit : WordsFit p v.word

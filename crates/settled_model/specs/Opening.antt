@@ -47,11 +47,13 @@ word_given [] m a = None
 word_given (w ∷ ws) m a =
     option_or (word_given ws m a) (if (w.mem.place == m) && (w.address == a) then Some w.value else None)
 
--- what an opening gives to everything; what it does not name is 0
+-- What an opening gives to everything; what it does not name is 0. It names no bit of a read port with a
+-- clock.
 abbrev pub stands_for : Opening → settled.Opening
 stands_for o =
     record {
       inputs = λ n. unwrap_or (given o.inputs n) false;
       states = λ k. is_among o.ones k;
+      reads = λ m r b. false;
       words = λ m a. unwrap_or (word_given o.words m a) 0;
     }

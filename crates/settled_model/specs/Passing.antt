@@ -3,6 +3,7 @@
 use Rattle.std.specs.Prelude.{◌≡◌, ◌<◌, ◌+◌, ◌^◌, ◌==◌, ◌||◌, ℕ, Bool, false, Option, Some, None, List, if◌then◌else◌, length, unwrap_or, slice_get, slice_set, get_or, Contains}
 use Rattle.std.specs.List.{list_any}
 use Rattle.id_arena.specs.declared.keys.ElemId.{ElemId}
+use Rattle.design_core.specs.declared.element.Edge.{Edge}
 use Rattle.design_core.specs.declared.element.Element.{Element}
 use Rattle.design_core.specs.declared.element.Element.TheVariants as element
 use Rattle.design_core.specs.declared.element.Memory.{Memory}
@@ -14,7 +15,7 @@ use Rattle.design_core.specs.declared.node.NodeId.{NodeId}
 use Rattle.design_core.specs.declared.node.NodeId.TheVariants.{Net, Write}
 use Rattle.design_core.specs.declared.parts.Parts.{Parts}
 use Rattle.design_core.specs.declared.values.PortBit.{PortBit}
-use Rattle.design_core.specs.Operation.{op_value, bit_of}
+use Rattle.design_core.specs.Operation.{op_value}
 use Rattle.design_core.specs.Design.{net_count, driver}
 use Rattle.design_core.specs.Limits.{word_count}
 use Rattle.design_core.specs.Event.{given, stores, written}
@@ -24,6 +25,7 @@ use Rattle.settled_model.specs.declared.turn.Turn.{Turn}
 use Rattle.settled_model.specs.declared.turn.Turn.TheVariants.{Opening, Event}
 use Rattle.settled_model.specs.declared.opening.OpenWord.{OpenWord}
 use Rattle.settled_model.specs.Held.{shown, first_word, word_in}
+use Rattle.settled_model.specs.Clocked.{port_of, clock_of, word_bit}
 use Rattle.settled_model.specs.Opening.{word_given}
 
 -- no edge counts in an opening
@@ -50,21 +52,24 @@ abbrev pub value_at : Turn → Valuation → Valuation → Option Element → Bo
 value_at turn v u None = false
 value_at turn v u (Some e) = element_value turn v u e
 
--- the bit of a read port, for the words of its memory, where memory and port are there
-abbrev pub port_value : (ℕ → ℕ) → Valuation → ℕ → Option ReadPort → Bool
-port_value words u b None = false
-port_value words u b (Some port) = bit_of (words (shown_number u port.address)) b
+-- what a bit of a read port with this clock shows: what it takes where the clock has its edge, else its
+-- old value
+abbrev pub clocked_value : Turn → Valuation → Valuation → ℕ → Bool → Edge → Bool
+clocked_value turn v u n taken edge = if counts turn (has_edge v u edge.net edge.rise) then taken else v.net n
 
-abbrev pub read_value : (ℕ → ℕ) → Valuation → ℕ → ℕ → Option Memory → Bool
-read_value words u r b None = false
-read_value words u r b (Some memory) = port_value words u b (slice_get memory.reads r)
+-- what a bit of a read port shows, by the port's clock; without one its bit of the word at the address
+abbrev pub bit_value : Turn → (ℕ → ℕ) → Valuation → Valuation → ℕ → ℕ → Bool → Option ReadPort → Option Edge → Bool
+bit_value turn words v u n b taken port None = word_bit words u b port
+bit_value turn words v u n b taken port (Some edge) = clocked_value turn v u n taken edge
 
--- what a driver gives to its net, for the values that inputs have and the words of all memories
+-- What a driver gives to its net, for the words of all memories and for the values that are put in before:
+-- those of inputs, and what bits of read ports with a clock take.
 abbrev pub driver_value : Parts → Turn → (ℕ → Bool) → (ℕ → ℕ → ℕ) → Valuation → Valuation → ℕ → Driver → Bool
 driver_value p turn inputs words v u n (Constant b) = b
 driver_value p turn inputs words v u n Input = inputs n
 driver_value p turn inputs words v u n (Elem k) = value_at turn v u (slice_get p.elements k.place)
-driver_value p turn inputs words v u n (Read m r b) = read_value (words m.place) u r b (slice_get p.memories m.place)
+driver_value p turn inputs words v u n (Read m r b) =
+    bit_value turn (words m.place) v u n b (inputs n) (port_of p m.place r) (clock_of (port_of p m.place r))
 
 -- the words after a write port has acted, where those of its memory begin at this place
 abbrev pub stored : Valuation → Valuation → WritePort → ℕ → List ℕ → List ℕ
@@ -95,8 +100,8 @@ HasRenewed p turn old (Net n) new words after rest =
     × (rest ≡ words)
 HasRenewed p turn old (Write m k) new words after rest = (after ≡ new) × HasStored p turn old new m.place k words rest
 
--- The tables in which each net has what its driver gives, where inputs have what they had at the start,
--- and each word is what the write ports make of it.
+-- The tables in which each net has what its driver gives, where inputs and what clocked bits take are what
+-- stood at the start, and each word is what the write ports make of it.
 pub record AreRenewed (p : Parts) (turn : Turn) (old start : List Bool) (begun : List ℕ) (new : List Bool) (rest : List ℕ) : Type 0 where
   pub size : length new ≡ net_count p
   pub room : length rest ≡ word_count p

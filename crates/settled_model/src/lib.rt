@@ -6,6 +6,7 @@
 //! How each node gets its turn is told once, at the opening, so that an event has little to read.
 #![tactic(auto)]
 
+mod clocked;
 mod elements;
 mod gates;
 mod laws;

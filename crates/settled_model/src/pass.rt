@@ -1,28 +1,29 @@
 //! One pass over the nodes of a design, in an order in which each stands after all on which it depends.
 
-ghost use Rattle.std.specs.Prelude.{◌≡◌, ◌<◌, Some, length, slice_get};
+ghost use Rattle.std.specs.Prelude.{◌≡◌, ◌<◌, IsTrue, length};
 ghost use Rattle.design_core.specs.Dependency.{IsNode};
 ghost use Rattle.design_core.specs.Design.{IsDesign, driver, net_count};
+ghost use Rattle.design_core.specs.Faults.{is_there};
 ghost use Rattle.design_core.specs.Limits.{IsWithin, word_count};
 ghost use Rattle.settled_model.specs.declared.turn.Turn.TheVariants.{Event};
 ghost use Rattle.design_core.specs.declared.node.NodeId.{NodeId};
 ghost use Rattle.design_core.specs.declared.node.NodeId.TheVariants.{Write};
-ghost use Rattle.design_core.specs.declared.element.Driver.TheVariants.{Read};
 ghost use Rattle.settled_model.specs.Held.{AreBases, shown, word_in};
-ghost use Rattle.settled_model.specs.Passing.{AreRenewed, HasRenewed, HasStored, driver_value, read_value};
+ghost use Rattle.settled_model.specs.Passing.{AreRenewed, HasRenewed, HasStored, clocked_value, driver_value};
 ghost use Rattle.settled_model.specs.Steps.{ArePlanned, IsStep, IsStepThere};
 
-use crate::elements::element_value;
+use crate::clocked::{port_of, word_bit};
+use crate::elements::{element_value, has_edge};
 use crate::gates::value_of;
-use crate::memory::{read_bit, store};
+use crate::memory::store;
 use crate::steps::Step;
 use crate::turn::Turn;
 use clock_rank::{Ranked, orders_are_sorted};
-use design_core::{Design, Driver, NodeId};
+use design_core::{Design, Driver, Edge, NodeId};
 use id_arena::{Key, MemId, NetId};
 
 /// Gives each net what its driver gives it, and in an event lets each write port act. Inputs keep what
-/// they have. The steps tell how each node of the order gets its turn.
+/// they have, and a bit of a read port with a clock finds in its place what it takes. The steps tell how each node of the order gets its turn.
 pub(crate) fn run_pass(
     ranked: &Ranked<'_>,
     steps: &[Step],
@@ -131,29 +132,29 @@ fn next_value(
         Driver::Constant(value) => value,
         Driver::Input => value_of(new, net),
         Driver::Elem(id) => element_value(turn, design.elem(id), old, new),
-        Driver::Read(mem, port, bit) => read(design, bases, net, (mem, port, bit), new, words),
+        Driver::Read(mem, port, bit) => {
+            let from = (mem, port, bit);
+            match port_of(design, net, from).clock {
+                None => word_bit(design, bases, net, from, new, words),
+                Some(edge) => clocked_value(turn, edge, net, old, new),
+            }
+        }
     }
 }
 
-/// What a bit of a memory's read port gives to its net.
-fn read(
-    design: &Design,
-    bases: &[usize],
-    net: NetId,
-    from: (MemId, u32, u32),
-    nets: &[bool],
-    words: &[u128],
-) -> bool
-    requires design { IsDesign design.now }
-    requires bases { AreBases design.now bases.now }
-    requires from { driver design.now net.place ≡ Read from.0 from.1 from.2 }
-    requires new_size { length nets.now ≡ net_count design.now }
-    requires room { length words.now ≡ word_count design.now }
-    ensures { result ≡ read_value (word_in design.now words.now from.0.place) (shown nets.now) from.1 from.2 (slice_get design.now.memories from.0.place) }
+/// What a bit of a read port with this clock gives to its net: what it takes, which stands in the place of
+/// the net, where an event has the edge, else its old value.
+fn clocked_value(turn: Turn, edge: Edge, net: NetId, old: &[bool], new: &[bool]) -> bool
+    requires lengths { length old.now ≡ length new.now }
+    requires clock { IsTrue (is_there (length new.now) edge.net) }
+    requires there { IsTrue (is_there (length new.now) net) }
+    ensures { result ≡ clocked_value turn (shown old.now) (shown new.now) net.place ((shown new.now).net net.place) edge }
 {
-    let (mem, port, bit) = from;
-    let port = design.mem(mem).reads.get(u64::from(port));
-    read_bit(port, bit, bases[mem.place() as usize], nets, words)
+    if turn == Turn::Event && has_edge(edge.net, edge.rise, old, new) {
+        value_of(new, net)
+    } else {
+        value_of(old, net)
+    }
 }
 
 /// Lets a memory's write port act in an event.

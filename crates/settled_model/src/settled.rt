@@ -4,12 +4,15 @@ ghost use Rattle.std.specs.Prelude.{◌≡◌, ◌<◌, IfOk, false, length, rep
 ghost use Rattle.design_core.specs.Design.{net_count};
 ghost use Rattle.design_core.specs.Event.{IsAfter};
 ghost use Rattle.design_core.specs.Limits.{word_count};
-ghost use Rattle.design_core.specs.Settled.{IsOpened};
-ghost use Rattle.design_core.specs.Valuation.{IsAddress};
-ghost use Rattle.settled_model.specs.Held.{AreBases, holding, valuation};
+ghost use Rattle.design_core.specs.Settled.{IsOpened, IsSettled};
+ghost use Rattle.design_core.specs.Valuation.{IsAddress, WordsFit};
+ghost use Rattle.settled_model.specs.Clocked.{AreClocked};
+ghost use Rattle.settled_model.specs.Held.{AreBases, Stands, holding, valuation};
 ghost use Rattle.settled_model.specs.Opening.{AreInputs, Opens, stands_for};
 ghost use Rattle.settled_model.specs.Steps.{ArePlanned};
 
+use crate::clocked::{clocked_nets, take_bits};
+use crate::laws::openings_fit;
 use crate::memory::{bases_of, put_words, word_at};
 use crate::opening::Opening;
 use crate::pass::run_pass;
@@ -19,6 +22,8 @@ use crate::turn::Turn;
 use clock_rank::Ranked;
 use design_core::PortValues;
 use emu_io::NoMemory;
+use history_law::events::events_keep_settled;
+use history_law::words::{events_keep_words_fit, opened_words_fit};
 use id_arena::{Key, MemId, NetId};
 use std::alloc::Global;
 use std::marker::Model;
@@ -27,7 +32,7 @@ use std::mem;
 /// The settled valuation of a ranked design, from its opening on and through its events.
 ///
 /// A clause sees the design's parts, the value of each net, and the words of all memories, one after the
-/// other.
+/// other. That the valuation is settled, and that its words fit their memories, stands with it: `stands`.
 #[derive(Drop)]
 pub struct Settled<'a> {
     ranked: &'a Ranked<'a>,
@@ -40,13 +45,16 @@ pub struct Settled<'a> {
     /// Where the words of each memory begin.
     bases: Vec<usize>,
     words: Vec<u128>,
+    /// The bits of read ports with a clock.
+    clocked: Vec<NetId>,
 }
 
 impl<'a> Model for Settled<'a> {
     ghost use Rattle.std.specs.Prelude.{◌≡◌, length};
     ghost use Rattle.design_core.specs.Design.{net_count};
     ghost use Rattle.design_core.specs.Limits.{word_count};
-    ghost use Rattle.settled_model.specs.Held.{AreBases, Held};
+    ghost use Rattle.settled_model.specs.Clocked.{AreClocked};
+    ghost use Rattle.settled_model.specs.Held.{AreBases, Held, Stands, holding};
     ghost use Rattle.settled_model.specs.Steps.{ArePlanned};
 
     ghost Value = { Held };
@@ -57,7 +65,9 @@ impl<'a> Model for Settled<'a> {
         × (length s.next.items ≡ net_count s.ranked.now.design)
         × AreBases s.ranked.now.design s.bases.items
         × (length s.words.items ≡ word_count s.ranked.now.design)
-        × ArePlanned s.ranked.now.design s.ranked.now.order s.steps.items };
+        × ArePlanned s.ranked.now.design s.ranked.now.order s.steps.items
+        × AreClocked s.ranked.now.design s.clocked.items
+        × Stands s.ranked.now.design (holding s.ranked.now.design s.nets.items s.words.items) };
 }
 
 impl<'a> Settled<'a> {
@@ -74,6 +84,7 @@ impl<'a> Settled<'a> {
         let design = ranked.design();
         design.stands();
         let steps = steps_of(alloc, ranked)?;
+        let clocked = clocked_nets(alloc, design)?;
         let bases = bases_of(alloc, design)?;
         let mut words = vec![in alloc; 0; bases[design.mems() as usize]]?;
         let mut states = vec![in alloc; false; design.nets() as usize]?;
@@ -94,6 +105,7 @@ impl<'a> Settled<'a> {
             next: states,
             bases,
             words,
+            clocked,
         })
     }
 
@@ -108,12 +120,21 @@ impl<'a> Settled<'a> {
             self.ranked,
             &self.steps,
             &self.bases,
+            &self.clocked,
             values,
             self.nets.as_slice(),
             &mut self.next,
             &mut self.words,
         );
         mem::swap(&mut self.nets, &mut self.next);
+    }
+
+    /// What holds of every valuation that an opening or an event gave, for its callers.
+    pub fn stands(&self)
+        ensures settled { IsSettled self.now.parts (valuation self.now) }
+        ensures words_fit { WordsFit self.now.parts (valuation self.now).word }
+    {
+        let _ = &self.ranked;
     }
 
     /// The value of a net.
@@ -157,8 +178,12 @@ fn fill_opened(
     requires states { states.old ≡ replicate (net_count ranked.now.design) false }
     requires nets { nets.old ≡ replicate (net_count ranked.now.design) false }
     requires words { words.old ≡ replicate (word_count ranked.now.design) 0 }
-    ensures { IsOpened ranked.now.design (stands_for opening.now) (holding ranked.now.design nets.new words.new) }
+    ensures opened { IsOpened ranked.now.design (stands_for opening.now) (holding ranked.now.design nets.new words.new) }
+    ensures stands { Stands ranked.now.design (holding ranked.now.design nets.new words.new) }
+    ensures room { length words.new ≡ word_count ranked.now.design }
 {
+    openings_fit();
+    opened_words_fit();
     let design = ranked.design();
     design.stands();
     set_states(design, opening.ones.as_slice(), states);
@@ -172,6 +197,7 @@ fn fill_next(
     ranked: &Ranked<'_>,
     steps: &[Step],
     bases: &[usize],
+    clocked: &[NetId],
     values: &PortValues,
     old: &[bool],
     new: &mut [bool],
@@ -179,14 +205,21 @@ fn fill_next(
 )
     requires steps { ArePlanned ranked.now.design ranked.now.order steps.now }
     requires bases { AreBases ranked.now.design bases.now }
+    requires clocked { AreClocked ranked.now.design clocked.now }
     requires inputs { AreInputs ranked.now.design values.now }
     requires old_size { length old.now ≡ net_count ranked.now.design }
     requires new_size { length new.old ≡ net_count ranked.now.design }
     requires room { length words.old ≡ word_count ranked.now.design }
-    ensures { IsAfter ranked.now.design (holding ranked.now.design old.now words.old) values.now (holding ranked.now.design new.new words.new) }
+    requires stands { Stands ranked.now.design (holding ranked.now.design old.now words.old) }
+    ensures after { IsAfter ranked.now.design (holding ranked.now.design old.now words.old) values.now (holding ranked.now.design new.new words.new) }
+    ensures stands { Stands ranked.now.design (holding ranked.now.design new.new words.new) }
 {
-    ranked.design().stands();
+    events_keep_settled();
+    events_keep_words_fit();
+    let design = ranked.design();
+    design.stands();
     new.copy_from_slice(old);
     put_values(values.as_slice(), new);
+    take_bits(design, bases, clocked, old, words, new);
     run_pass(ranked, steps, bases, Turn::Event, old, new, words);
 }

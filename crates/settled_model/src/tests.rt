@@ -9,7 +9,7 @@ ghost use Rattle.settled_model.specs.Opening.{AreElements, AreInputs, AreWords, 
 use crate::{OpenWord, Opening, Settled, openings_fit, runs_give_the_history, runs_grow};
 use clock_rank::{Ranked, rank};
 use design_core::{
-    Design, Driver, Element, Flop, Latch, Level, Memory, NetName, Op, Parts, Port, PortBit,
+    Design, Driver, Edge, Element, Flop, Latch, Level, Memory, NetName, Op, Parts, Port, PortBit,
     PortValues, ReadPort, Scope, WritePort,
 };
 use emu_io::{List, NoMemory, Text};
@@ -168,6 +168,13 @@ fn is_small(design: &Design) -> bool
     memory.address_bits == 1 && memory.width == 2
 }
 
+/// Whether the first memory is there and has one word.
+fn is_single(design: &Design) -> bool
+    ensures { IsTrue result → (memory : Memory) × (slice_get design.now.memories 0 ≡ Some memory) × (memory.address_bits ≡ 0) }
+{
+    design.mems() > 0 && design.mem(MemId::of(0)).address_bits == 0
+}
+
 /// These words of the first memory, by address.
 fn words(alloc: Global, design: &Design, given: &[(u32, u128)]) -> Result<List<OpenWord>, Fail>
     ensures { IfOk result (λ words. AreWords design.now words) }
@@ -233,6 +240,7 @@ fn holds(settled: &Settled<'_>, design: &Design, words: &[u128]) -> bool
     let memory = MemId::of(0);
     match words {
         [] => design.mems() == 0,
+        [only] => is_single(design) && settled.word(memory, 0) == *only,
         [low, high] => {
             is_small(design) && settled.word(memory, 0) == *low && settled.word(memory, 1) == *high
         }
@@ -297,6 +305,7 @@ fn opened_right(
     requires opening { Opens design.now opening.now }
 {
     let mut settled = Settled::open(alloc, ranked, opening)?;
+    settled.stands();
     rows_right(alloc, &mut settled, design, rows)
 }
 
@@ -534,11 +543,13 @@ fn write_port(alloc: Global, enable: u32, feed: [u32; 2]) -> Result<WritePort, N
     })
 }
 
-/// A memory of two words of two bits. Its first write port stores the data, and its second one 3.
-fn memory(alloc: Global) -> Result<Memory, NoMemory> {
+/// A memory of two words of two bits. Its first write port stores the data, and its second one 3. Its read
+/// port has this clock or none.
+fn memory(alloc: Global, clock: Option<Edge>) -> Result<Memory, NoMemory> {
     let mut writes = only(alloc, write_port(alloc, ENABLE, [LOW, HIGH])?)?;
     writes.push(write_port(alloc, FILL, [1, 1])?)?;
     let read = ReadPort {
+        clock,
         address: nets(alloc, &[READ])?,
         bits: nets(alloc, &[9, 10])?,
     };
@@ -550,9 +561,9 @@ fn memory(alloc: Global) -> Result<Memory, NoMemory> {
     })
 }
 
-fn memory_design(alloc: Global) -> Result<Design, Fail> {
+fn memory_design(alloc: Global, clock: Option<Edge>) -> Result<Design, Fail> {
     let elements = only(alloc, Element::Memory(MemId::of(0)))?;
-    let memories = only(alloc, memory(alloc)?)?;
+    let memories = only(alloc, memory(alloc, clock)?)?;
     let inputs = [CLOCK, ENABLE, FILL, WRITE, LOW, HIGH, READ];
     design(alloc, parts(alloc, 11, &inputs, elements, memories)?)
 }
@@ -639,12 +650,144 @@ static MEMORY_ROWS: [Row; 12] = [
 
 /// How many rows of the memory come about. Of two words that it is opened with at an address the later one counts.
 fn memory_right(alloc: Global) -> Result<usize, Fail> {
-    let design = memory_design(alloc)?;
+    let design = memory_design(alloc, None)?;
     follows(alloc, &design, &[], &[(1, 3), (1, 2)], &MEMORY_ROWS)
 }
 
 #[test]
 fn a_memory_follows_events(rt: HostRuntime) -> Result<(), Fail> {
     assert_eq!(rt; memory_right(rt.alloc())?, 12);
+    Ok(())
+}
+
+/// The same digits, where the read port has the falling clock of the write ports.
+static CLOCKED_ROWS: [Row; 7] = [
+    // the read bits open with 0
+    Row {
+        given: &[
+            (CLOCK, true),
+            (ENABLE, true),
+            (LOW, true),
+            (HIGH, true),
+            (READ, true),
+        ],
+        nets: "01 110 0 11 1 00",
+        words: &[0, 2],
+    },
+    // the clock falls: the port takes the word at address 1 from before, and 3 goes to address 0
+    Row {
+        given: &[(CLOCK, false), (WRITE, true), (READ, false)],
+        nets: "01 010 1 11 0 01",
+        words: &[3, 2],
+    },
+    // it rises, and then the address changes: the port keeps what it took
+    Row {
+        given: &[(CLOCK, true)],
+        nets: "01 110 1 11 0 01",
+        words: &[3, 2],
+    },
+    Row {
+        given: &[(READ, true)],
+        nets: "01 110 1 11 1 01",
+        words: &[3, 2],
+    },
+    // it falls: 3 goes to address 1, of which the port takes the word from before
+    Row {
+        given: &[(CLOCK, false)],
+        nets: "01 010 1 11 1 01",
+        words: &[3, 3],
+    },
+    Row {
+        given: &[(CLOCK, true)],
+        nets: "01 110 1 11 1 01",
+        words: &[3, 3],
+    },
+    // at the next fall it takes that 3
+    Row {
+        given: &[(CLOCK, false), (LOW, false)],
+        nets: "01 010 1 01 1 11",
+        words: &[3, 3],
+    },
+];
+
+/// How many rows of the memory with a clocked read port come about.
+fn clocked_right(alloc: Global) -> Result<usize, Fail> {
+    let falling = Edge {
+        net: NetId::of(CLOCK),
+        rise: false,
+    };
+    let design = memory_design(alloc, Some(falling))?;
+    follows(alloc, &design, &[], &[(1, 2)], &CLOCKED_ROWS)
+}
+
+#[test]
+fn a_clocked_read_port_takes_words_from_before(rt: HostRuntime) -> Result<(), Fail> {
+    assert_eq!(rt; clocked_right(rt.alloc())?, 7);
+    Ok(())
+}
+
+// The nets of the design of one bit: data is net 3, and the read port shows net 4.
+const DATA: u32 = 3;
+
+/// A memory of one word of one bit, which the rising clock writes and reads.
+fn bit_memory(alloc: Global) -> Result<Memory, NoMemory> {
+    let write = WritePort {
+        clock: NetId::of(CLOCK),
+        rise: true,
+        enable: level(1, true),
+        address: List::new(alloc),
+        feed: nets(alloc, &[DATA])?,
+    };
+    let read = ReadPort {
+        clock: Some(Edge {
+            net: NetId::of(CLOCK),
+            rise: true,
+        }),
+        address: List::new(alloc),
+        bits: nets(alloc, &[4])?,
+    };
+    Ok(Memory {
+        address_bits: 0,
+        width: 1,
+        writes: only(alloc, write)?,
+        reads: only(alloc, read)?,
+    })
+}
+
+/// The digits are, in this order: the constants 0 and 1; clock and data; the bit that is read.
+static BIT_ROWS: [Row; 4] = [
+    Row {
+        given: &[(DATA, true)],
+        nets: "01 01 0",
+        words: &[0],
+    },
+    Row {
+        given: &[(CLOCK, true)],
+        nets: "01 11 0",
+        words: &[1],
+    },
+    Row {
+        given: &[(CLOCK, false)],
+        nets: "01 01 0",
+        words: &[1],
+    },
+    Row {
+        given: &[(CLOCK, true)],
+        nets: "01 11 1",
+        words: &[1],
+    },
+];
+
+/// How many rows of the memory of one bit come about.
+fn bit_right(alloc: Global) -> Result<usize, Fail> {
+    let elements = only(alloc, Element::Memory(MemId::of(0)))?;
+    let memories = only(alloc, bit_memory(alloc)?)?;
+    let design = design(alloc, parts(alloc, 5, &[CLOCK, DATA], elements, memories)?)?;
+    follows(alloc, &design, &[], &[], &BIT_ROWS)
+}
+
+#[test]
+fn a_word_is_read_one_edge_after_it_is_written(rt: HostRuntime) -> Result<(), Fail> {
+    assert_eq!(rt; bit_right(rt.alloc())?, 4);
     Ok(())
 }

@@ -3,7 +3,7 @@ use Rattle.std.proofs.lemmas.Map.Views.{Contains-from_any}
 use Rattle.id_arena.specs.declared.keys.NetId.{NetId}
 use Rattle.design_core.specs.declared.element.Driver.TheVariants.{Input}
 use Rattle.design_core.specs.Design.{driver, is_net, port_bits}
-use Rattle.history_law.proofs.Naming.{number_same}
+use Rattle.facts.proofs.Tests.{number_same}
 use Rattle.settled_model.proofs.tests.input.Goals as goal
 
 same_net : (a b : NetId) → is_net a.place b ≡ true → a ≡ b
