@@ -4,6 +4,7 @@ use Rattle.std.specs.Prelude.{◌⊎◌, Some, slice_get, unwrap_or}
 use Rattle.std.proofs.lemmas.Bool.{cases_lt}
 use Rattle.std.proofs.lemmas.List.{length-set, get_or_default, take_more, take_more_set}
 use Rattle.std.proofs.lemmas.Option.{none-some, slice_get_past, slice_get_within, slice_get-get_or, get_or_from_slice_get, unwrap_or-slice_get}
+use Rattle.id_arena.specs.declared.wire.Wire.{Wire}
 use Rattle.emu_machine.specs.declared.netlist.Chip.{Chip}
 use Rattle.emu_machine.specs.declared.netlist.EmuRegister.{EmuRegister}
 use Rattle.emu_machine.specs.declared.results.Results.{Results}
@@ -12,7 +13,7 @@ use Rattle.emu_machine.specs.State.{net_value}
 use Rattle.cycle_sim.specs.Standing.{CanRun, RegisterStands}
 use Rattle.cycle_sim.specs.declared.steps.Step.{Step}
 use Rattle.cycle_sim.specs.Steps.{HasSteps}
-use Rattle.cycle_sim.specs.Tables.{cell, state_of, HaveSizes, AllShown, AllStepped, FirstShown}
+use Rattle.cycle_sim.specs.Tables.{Tables, cell, state_of, HaveSizes, AllShown, AllStepped, FirstShown}
 
 pub record IsCopied (from to : List Bool) (count : ℕ) : Type 0 where
   pub size : length to ≡ length from
@@ -51,7 +52,7 @@ module _ (r : Results) (chip k : ℕ) (register : EmuRegister) (at : slice_get (
   pub low_in : (held : List (List Bool)) → HaveSizes r held → chip < length held
   low_in held sizes = let low : chip < length r.net = chip_low in omega (arith, sizes.count)
 
-  module _ (nets : ℕ) (runs : CanRun r nets) where
+  module _ (wires : List Wire) (nets : ℕ) (runs : CanRun r wires nets) where
     pub register_stands : RegisterStands (chip_at r.net chip).nets register
     register_stands = (runs.chips chip (chip_at r.net chip) (chip_here r.net chip chip_low)).registers k register at
 
@@ -83,7 +84,17 @@ all_shown r held count shown whole first =
     }
 
 -- what a net shows is its value
-pub net_is : (r : Results) (held shown : List (List Bool)) (outside : List Bool) → AllShown r held shown
+pub net_is : (r : Results) (t : Tables) (shown : List (List Bool)) → AllShown r t.held shown
     → (c n : ℕ) → c < length r.net → n < (chip_at r.net c).nets
-    → cell shown c n ≡ net_value r.net (state_of (record { held = held; outside = outside })) c n
-net_is r held shown outside all c n low within = (all.each c (chip_at r.net c) (chip_here r.net c low)).each n within
+    → cell shown c n ≡ net_value r.net (state_of t) c n
+net_is r t shown all c n low within = (all.each c (chip_at r.net c) (chip_here r.net c low)).each n within
+
+-- a net that is there is one of a chip that is there
+pub net_chip_low : (chips : List Chip) (c n : ℕ) → n < (chip_at chips c).nets → c < length chips
+net_chip_low chips c n low = go (cases_lt c (length chips))
+  where
+    go : (c < length chips) ⊎ (length chips ≤ c) → c < length chips
+    go (inl within) = within
+    go (inr high) =
+        let none : (chip_at chips c).nets ≡ 0 = ap (λ o. (unwrap_or o no_chip).nets) (slice_get_past chips c high) in
+        absurd (omega (arith, none, low))

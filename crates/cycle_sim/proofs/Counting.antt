@@ -5,20 +5,18 @@ use Rattle.std.proofs.lemmas.Bool.{cases_order}
 use Rattle.std.proofs.lemmas.Bool.Decides.{nat_tests}
 use Rattle.std.proofs.lemmas.List.Sums.{sum_by-cons}
 use Rattle.std.proofs.lemmas.List.Elements.{All-head, All-tail}
+use Rattle.facts.proofs.Tests.{same_number}
 
-is_less : (a b : ℕ) → a < b → nat_lt a b ≡ true
+pub is_less : (a b : ℕ) → a < b → nat_lt a b ≡ true
 is_less a b h = grind (arith, nat_tests)
 
 is_not_less : (a b : ℕ) → b ≤ a → nat_lt a b ≡ false
 is_not_less a b h = grind (arith, nat_tests)
 
-is_same : (a b : ℕ) → a ≡ b → (a == b) ≡ true
-is_same a b h = grind (arith, nat_tests)
-
 pub is_other : (a b : ℕ) → (a ≡ b → ⊥) → (a == b) ≡ false
 is_other a b h = grind (arith, nat_tests, h)
 
-abbrev one_if : Bool → ℕ
+abbrev pub one_if : Bool → ℕ
 one_if b = cond {A = ℕ} b 1 0
 
 -- a number below the next bound is below the bound or is the bound
@@ -29,7 +27,7 @@ split a m = go (cases_order a m)
     go (inl same) =
         let l : nat_lt a (suc m) ≡ true = is_less a (suc m) (omega arith) in
         let n : nat_lt a m ≡ false = is_not_less a m (omega arith) in
-        let e : (a == m) ≡ true = is_same a m same in
+        let e : (a == m) ≡ true = same_number a m same in
         rw (l, n, e) refl
     go (inr (inl less)) =
         let l : nat_lt a (suc m) ≡ true = is_less a (suc m) (omega arith) in

@@ -15,18 +15,14 @@ use Rattle.emu_machine.specs.declared.netlist.Chip.{Chip}
 use Rattle.emu_machine.specs.declared.netlist.EmuGate.{EmuGate}
 use Rattle.emu_machine.specs.Netlist.{is_chip_net, net_drivers, LeadsTo, next, IsOnCycle}
 use Rattle.emu_machine.specs.Netlist as netlist
-use Rattle.history_law.proofs.Lists.{found}
-use Rattle.history_law.proofs.Naming.{same_number}
+use Rattle.facts.proofs.Lists.{found}
+use Rattle.facts.proofs.Tests.{same_number}
 use Rattle.cycle_sim.specs.Standing.{ChipStands}
 use Rattle.cycle_sim.specs.Orders.{AreDrivers, needs_of, IsGateOrder}
 use Rattle.cycle_sim.proofs.Counting.{few}
 
 no_gate : EmuGate
 no_gate = record { op = Buf; output = record { place = 0 }; inputs = [] }
-
--- the place at which a list contains something, read there
-pub read_at : {X : Type 0} (xs : List X) (x : X) (h : Contains xs x) → slice_get xs h.0 ≡ Some x
-read_at xs x h = slice_get-get_or xs h.0 x h.1 ∙ ap Some h.2
 
 -- what is contained in nothing
 pub not_in_none : {X : Type 0} (x : X) → Contains [] x → ⊥

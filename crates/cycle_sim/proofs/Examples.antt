@@ -1,20 +1,25 @@
 -- The results on which the machine is tested can be run.
-use Rattle.std.proofs.Common.{◌≡◌, ◌<◌, ℕ, zero, suc, Bool, List, [], ◌∷◌, get_or, length, refl, sym, ap, subst, ◌∙◌, inl, inr, arith}
-use Rattle.std.specs.Prelude.{◌⊎◌, Some, None, slice_get, Contains, codes}
+use Rattle.std.proofs.Common.{◌≡◌, ◌<◌, ℕ, zero, suc, Bool, true, List, [], ◌∷◌, get_or, length, refl, sym, ap, subst, ◌∙◌, arith}
+use Rattle.std.specs.Prelude.{◌&&◌, not, nat_lt, Some, None, slice_get, unwrap_or, Contains}
+use Rattle.std.specs.List.{list_all}
 use Rattle.std.proofs.lemmas.List.Elements.{All-nil, All-cons}
 use Rattle.std.proofs.lemmas.Option.{none-some, same_Some}
 use Rattle.id_arena.specs.declared.keys.ChipNetId.{ChipNetId}
+use Rattle.id_arena.specs.declared.wire.Wire.{Wire}
 use Rattle.emu_machine.specs.declared.netlist.Chip.{Chip}
 use Rattle.emu_machine.specs.declared.netlist.EmuGate.{EmuGate}
 use Rattle.emu_machine.specs.declared.netlist.EmuRegister.{EmuRegister}
 use Rattle.emu_machine.specs.declared.schedule.Action.{Action}
-use Rattle.emu_machine.specs.declared.schedule.Frame.{Frame}
-use Rattle.emu_machine.specs.declared.schedule.Slot.{Slot}
 use Rattle.emu_machine.specs.declared.results.Results.{Results}
-use Rattle.emu_machine.specs.Netlist.{net_drivers, LeadsTo, next, through}
-use Rattle.cycle_sim.specs.Standing.{IsThere, GateStands, RegisterStands, ChipStands, ActionStands, CanRun, IsRegister}
+use Rattle.emu_machine.specs.Acceptance.{action_fits}
+use Rattle.emu_machine.specs.Netlist.{no_chip, net_drivers, LeadsTo, next, through}
+use Rattle.emu_machine.specs.State.{frame_slots, actions_of}
+use Rattle.facts.proofs.Places.{all_at, at_contains}
+use Rattle.facts.proofs.Tests.{left, right, not_true}
+use Rattle.cycle_sim.specs.Standing.{IsThere, GateStands, RegisterStands, ChipStands, touches_memory, ActionStands, CanRun, IsRegister}
 use Rattle.cycle_sim.specs.Tables.{HaveSizes}
-use Rattle.cycle_sim.specs.Example.{inverter, example_chip, example_load, example_input, example_schedule, example_results}
+use Rattle.cycle_sim.specs.Example.{inverter, example_chip, example_load, example_input, example_results}
+use Rattle.cycle_sim.specs.Relay.{relay_chip, relay_wires, relay_input, relay_send, relay_results}
 
 only : {X : Type 0} (x y : X) → Contains (x ∷ []) y → x ≡ y
 only x y h = go h.0 h.1 h.2
@@ -22,14 +27,6 @@ only x y h = go h.0 h.1 h.2
     go : (k : ℕ) → k < 1 → get_or (x ∷ []) k y ≡ y → x ≡ y
     go zero low is = is
     go (suc k) low is = absurd (omega arith)
-
-one_of_two : {X : Type 0} (x y z : X) → Contains (x ∷ y ∷ []) z → (x ≡ z) ⊎ (y ≡ z)
-one_of_two x y z h = go h.0 h.1 h.2
-  where
-    go : (k : ℕ) → k < 2 → get_or (x ∷ y ∷ []) k z ≡ z → (x ≡ z) ⊎ (y ≡ z)
-    go zero low is = inl is
-    go (suc zero) low is = inr is
-    go (suc (suc k)) low is = absurd (omega arith)
 
 drivers : (n : ℕ) → n < 4 → net_drivers example_chip n ≡ 1
 drivers zero low = refl
@@ -92,35 +89,29 @@ chip_stands =
       no_cycle = λ k h. let one : k ≡ 1 = (leads k k h).0 in let none : k ≡ 0 = (leads k k h).1 in omega arith;
     }
 
-load_stands : ActionStands example_results 3 example_load
-load_stands = (record { q = record { place = 3 }; d = Some (record { place = 2 }); enable = None }, refl)
+-- ## Actions
 
-input_stands : ActionStands example_results 3 example_input
-input_stands = ((record { q = record { place = 0 }; d = None; enable = None }, refl), omega arith)
+-- whether an action stands
+abbrev stands_here : Results → List Wire → ℕ → ℕ → ℕ → Action → Bool
+stands_here r wires nets slots t a = action_fits r.net wires (λ n. nat_lt n nets) slots t a && not (touches_memory a)
 
-abbrev first_slot : Slot
-first_slot = record { actions = example_load ∷ example_input ∷ [] }
+all_stand : (r : Results) (wires : List Wire) (nets slots t : ℕ) (actions : List Action) → list_all (stands_here r wires nets slots t) actions ≡ true
+    → (a : Action) → Contains actions a → ActionStands r wires nets slots t a
+all_stand r wires nets slots t actions all a has =
+    let at = at_contains actions a has in
+    let stands = all_at (stands_here r wires nets slots t) actions at.0 a all at.1 in
+    record { fits = left _ _ stands; no_memory = not_true (touches_memory a) (right _ _ stands) }
 
-abbrev second_slot : Slot
-second_slot = record { actions = example_load ∷ [] }
+none_stand : (r : Results) (wires : List Wire) (nets slots t : ℕ) (a : Action) → Contains [] a → ActionStands r wires nets slots t a
+none_stand r wires nets slots t a has = absurd (none-some a (at_contains [] a has).1)
 
-in_first : (action : Action) → (example_load ≡ action) ⊎ (example_input ≡ action) → ActionStands example_results 3 action
-in_first action (inl e) = subst (ActionStands example_results 3) e load_stands
-in_first action (inr e) = subst (ActionStands example_results 3) e input_stands
+actions : (k t : ℕ) (a : Action) → Contains (actions_of (frame_slots example_results k) t) a → ActionStands example_results [] 3 (length (frame_slots example_results k)) t a
+actions zero zero a has = all_stand example_results [] 3 2 0 (example_load ∷ example_input ∷ []) refl a has
+actions zero (suc zero) a has = all_stand example_results [] 3 2 1 (example_load ∷ []) refl a has
+actions zero (suc (suc t)) a has = none_stand example_results [] 3 2 (suc (suc t)) a has
+actions (suc k) t a has = none_stand example_results [] 3 0 t a has
 
-in_slot : (slot : Slot) (action : Action) → (first_slot ≡ slot) ⊎ (second_slot ≡ slot) → Contains slot.actions action → ActionStands example_results 3 action
-in_slot slot action (inl e) has =
-    in_first action (one_of_two example_load example_input action (subst (λ (s : Slot). Contains s.actions action) (sym e) has))
-in_slot slot action (inr e) has =
-    subst (ActionStands example_results 3) (only example_load action (subst (λ (s : Slot). Contains s.actions action) (sym e) has)) load_stands
-
-actions : (frame : Frame) (slot : Slot) (action : Action)
-    → Contains example_schedule.frames frame → Contains frame.slots slot → Contains slot.actions action → ActionStands example_results 3 action
-actions frame slot action in_frames in_slots in_actions =
-    let frame_is = only (record { group = codes "*"; slots = first_slot ∷ second_slot ∷ [] }) frame in_frames in
-    in_slot slot action (one_of_two first_slot second_slot slot (subst (λ (f : Frame). Contains f.slots slot) (sym frame_is) in_slots)) in_actions
-
-pub example_runs : CanRun example_results 3
+pub example_runs : CanRun example_results [] 3
 example_runs = record { chips = chips; actions = actions }
   where
     chips : (c : ℕ) (chip : Chip) → slice_get example_results.net c ≡ Some chip → ChipStands chip
@@ -141,3 +132,81 @@ register_there r c k number register same chip is at =
     subst (λ (q : Results). IsRegister q c k) (sym same)
     (subst (λ n. IsRegister example_results n k) (sym chip)
     (subst (λ n. IsRegister example_results 0 n) (sym is) (register, at)))
+
+-- ## Two chips and a wire
+
+relay_drivers : (n : ℕ) → n < 2 → net_drivers relay_chip n ≡ 1
+relay_drivers zero low = refl
+relay_drivers (suc zero) low = refl
+relay_drivers (suc (suc n)) low = absurd (omega arith)
+
+-- its only gate does not lead to itself
+relay_leads : (j k : ℕ) → LeadsTo relay_chip j k → ⊥
+relay_leads j k (next j2 k2 from to f t has) = go j2 k2 f t
+  where
+    go : (j k : ℕ) → slice_get relay_chip.gates j ≡ Some from → slice_get relay_chip.gates k ≡ Some to → ⊥
+    go zero zero f t =
+        let e : ◌≡◌ {A = ℕ} 0 1 = reads 0 1 1 0 from to (same_Some (inverter 1 0) from f) (same_Some (inverter 1 0) to t) has in omega arith
+    go (suc j) k f t = none-some from f
+    go zero (suc k) f t = none-some to t
+relay_leads i k (through i2 j2 k2 a b) = relay_leads i2 j2 a
+
+relay_stands : ChipStands relay_chip
+relay_stands = record { drivers = relay_drivers; gates = gates; registers = registers; no_cycle = λ k. relay_leads k k }
+  where
+    gates : (k : ℕ) (gate : EmuGate) → slice_get relay_chip.gates k ≡ Some gate → GateStands 2 gate
+    gates zero gate at =
+        subst (GateStands 2) (same_Some (inverter 1 0) gate at)
+        (record {
+          output = omega arith;
+          inputs = All-cons (IsThere 2) (record { place = 0 }) [] (omega arith) (All-nil (IsThere 2));
+          few = omega arith;
+        })
+    gates (suc k) gate at = absurd (none-some gate at)
+
+    registers : (k : ℕ) (register : EmuRegister) → slice_get relay_chip.registers k ≡ Some register → RegisterStands 2 register
+    registers zero register at =
+        subst (RegisterStands 2) (same_Some (record { q = record { place = 0 }; d = None; enable = None }) register at)
+        (record { q = omega arith; d = tt; enable = tt })
+    registers (suc k) register at = absurd (none-some register at)
+
+-- the `send` stands over a wire of a latency with which it is there within the frame
+module _ (latency : ℕ) (sends : list_all (stands_here relay_results (relay_wires latency) 3 4 1) (relay_send ∷ []) ≡ true) where
+  relay_actions : (k t : ℕ) (a : Action) → Contains (actions_of (frame_slots relay_results k) t) a
+      → ActionStands relay_results (relay_wires latency) 3 (length (frame_slots relay_results k)) t a
+  relay_actions zero zero a has = all_stand relay_results (relay_wires latency) 3 4 0 (relay_input ∷ []) refl a has
+  relay_actions zero (suc zero) a has = all_stand relay_results (relay_wires latency) 3 4 1 (relay_send ∷ []) sends a has
+  relay_actions zero (suc (suc zero)) a has = all_stand relay_results (relay_wires latency) 3 4 2 (relay_input ∷ []) refl a has
+  relay_actions zero (suc (suc (suc zero))) a has = none_stand relay_results (relay_wires latency) 3 4 3 a has
+  relay_actions zero (suc (suc (suc (suc t)))) a has = none_stand relay_results (relay_wires latency) 3 4 (suc (suc (suc (suc t)))) a has
+  relay_actions (suc k) t a has = none_stand relay_results (relay_wires latency) 3 0 t a has
+
+  relay_runs : CanRun relay_results (relay_wires latency) 3
+  relay_runs = record { chips = chips; actions = relay_actions }
+    where
+      chips : (c : ℕ) (chip : Chip) → slice_get relay_results.net c ≡ Some chip → ChipStands chip
+      chips zero chip at = subst ChipStands (same_Some relay_chip chip at) relay_stands
+      chips (suc zero) chip at = subst ChipStands (same_Some relay_chip chip at) relay_stands
+      chips (suc (suc c)) chip at = absurd (none-some chip at)
+
+pub short_relay_runs : CanRun relay_results (relay_wires 1) 3
+short_relay_runs = relay_runs 1 refl
+
+pub long_relay_runs : CanRun relay_results (relay_wires 3) 3
+long_relay_runs = relay_runs 3 refl
+
+pub relay_sizes : (first second : List Bool) → length first ≡ 2 → length second ≡ 2 → HaveSizes relay_results (first ∷ second ∷ [])
+relay_sizes first second first_size second_size = record { count = refl; sizes = sizes }
+  where
+    sizes : (c : ℕ) (chip : Chip) → slice_get relay_results.net c ≡ Some chip → length (get_or (first ∷ second ∷ []) c []) ≡ chip.nets
+    sizes zero chip at = first_size ∙ ap (λ (h : Chip). h.nets) (same_Some relay_chip chip at)
+    sizes (suc zero) chip at = second_size ∙ ap (λ (h : Chip). h.nets) (same_Some relay_chip chip at)
+    sizes (suc (suc c)) chip at = absurd (none-some chip at)
+
+-- the register of either chip
+pub relay_there : (r : Results) (c k at : ℕ) → r ≡ relay_results → c ≡ at → k ≡ 0 → slice_get relay_results.net at ≡ Some relay_chip → IsRegister r c k
+relay_there r c k at same chip is here =
+    subst (λ (q : Results). IsRegister q c k) (sym same)
+    (subst (λ n. IsRegister relay_results n k) (sym chip)
+    (subst (λ n. IsRegister relay_results at n) (sym is)
+    (record { q = record { place = 0 }; d = None; enable = None }, ap (λ o. slice_get (unwrap_or o no_chip).registers 0) here)))

@@ -3,9 +3,13 @@ pub mod Counting
 pub mod Drivers
 pub mod Passing
 pub mod Chips
+pub mod Fitting
+pub mod Ending
 pub mod Taking
+pub mod Sending
 pub mod SlotSteps
 pub mod UnderWay
 pub mod Loads
 pub mod Examples
 pub mod JudgedResults
+pub mod Sources

@@ -15,12 +15,12 @@ use Rattle.emu_machine.specs.declared.netlist.EmuMemory.{EmuMemory}
 use Rattle.emu_machine.specs.declared.map.ChipMap.{ChipMap}
 use Rattle.emu_machine.specs.declared.map.MemMap.{MemMap}
 use Rattle.emu_machine.specs.declared.map.Subject.{Subject}
-use Rattle.emu_machine.specs.declared.map.Subject.TheVariants.{Net, Up, Down, Take, Next, TakeWrite}
+use Rattle.emu_machine.specs.declared.map.Subject.TheVariants.{Net, Up, Down, Take, Next, TakeWrite, Old, TakeRead}
 use Rattle.emu_machine.specs.declared.results.Results.{Results}
 use Rattle.emu_machine.specs.Netlist.{no_chip, chip_at, is_chip_net}
 use Rattle.emu_machine.specs.Mapped.{no_chip_map, chip_map, subject, memory_of, is_kept, kept_by_register, kept_by_read, IsValueOf, IsLoaded}
-use Rattle.history_law.proofs.Lists.{no}
-use Rattle.history_law.proofs.Naming.{same_number}
+use Rattle.facts.proofs.Lists.{no}
+use Rattle.facts.proofs.Tests.{same_number}
 use Rattle.cycle_sim.specs.Tables.{cell, state_of, HaveSizes}
 use Rattle.cycle_sim.specs.Loading.{FreeAreZero, IsDesignNet, CanLoad, told, IsHeld, HasHeld, FirstHeld, AreHeld}
 use Rattle.cycle_sim.proofs.Counting.{is_other}
@@ -191,8 +191,8 @@ module _ (p : Parts) (r : Results) (can : CanLoad p r) (values : List Bool) (hel
           ap (λ row. get_or row n false) (get_or_past held c [] (omega (arith, is.size)))
           ∙ sym (ap (λ o. if kept_by_register (unwrap_or o no_chip) (chip_map r c) n then told values (subject r c n) else false) (slice_get_past r.net c high))
 
-  pub free : (outside : List Bool) → FreeAreZero r (state_of (record { held = held; outside = outside }))
-  free outside c n not_kept =
+  pub free : (outside : List Bool) → FreeAreZero r (state_of (record { held = held; outside = outside; carried = [] }))
+  free outside c n source not_kept =
       holds c n ∙ ap (λ b. if b then told values (subject r c n) else false) (or_parts (kept_by_register (chip_at r.net c) (chip_map r c) n) (kept_by_read (chip_at r.net c) (chip_map r c) n) not_kept).0
 
   module _ (v : Valuation) (has : HasValues p values v) where
@@ -203,6 +203,8 @@ module _ (p : Parts) (r : Results) (can : CanLoad p r) (values : List Bool) (hel
     value_of (Some (Take m)) low value e = low
     value_of (Some (Next m)) low value e = low
     value_of (Some (TakeWrite m k)) low value e = low
+    value_of (Some (Old m k b)) low value e = low
+    value_of (Some (TakeRead m k)) low value e = low
     value_of None low value e = low
 
     register_kept : (c n : ℕ) → is_kept r c n ≡ true → kept_by_register (chip_at r.net c) (chip_map r c) n ≡ true
@@ -222,7 +224,7 @@ module _ (p : Parts) (r : Results) (can : CanLoad p r) (values : List Bool) (hel
             (sym (ap (λ o. option_map (λ one. one.of.place) (slice_get (unwrap_or o no_chip_map).memories m)) e
             ∙ ap (λ ms. option_map (λ one. one.of.place) (slice_get ms m)) (can.no_map c entry e)) ∙ is_of)
 
-    pub loads : (outside : List Bool) → outside ≡ values → IsLoaded p r v (state_of (record { held = held; outside = outside }))
+    pub loads : (outside : List Bool) → outside ≡ values → IsLoaded p r v (state_of (record { held = held; outside = outside; carried = [] }))
     loads outside e =
         record {
           state = record {

@@ -13,8 +13,8 @@ use Rattle.design_core.specs.Operation.{op_value}
 use Rattle.emu_machine.specs.declared.netlist.Chip.{Chip}
 use Rattle.emu_machine.specs.declared.netlist.EmuGate.{EmuGate}
 use Rattle.emu_machine.specs.Netlist.{is_chip_net, gate_of}
-use Rattle.history_law.proofs.Lists.{first, find_at}
-use Rattle.history_law.proofs.Naming.{same_number, number_same}
+use Rattle.facts.proofs.Lists.{first, find_at}
+use Rattle.facts.proofs.Tests.{same_number, number_same}
 use Rattle.cycle_sim.specs.declared.steps.Step.{Step}
 use Rattle.cycle_sim.specs.declared.steps.Step.TheVariants.{Follow, Gate}
 use Rattle.cycle_sim.specs.Standing.{ChipStands, GateStands, IsThere}

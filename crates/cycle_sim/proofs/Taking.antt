@@ -4,25 +4,26 @@ use Rattle.std.specs.Prelude.{◌==◌, ◌⊎◌, Option, Some, None, slice_get
 use Rattle.std.specs.Option.{option_or}
 use Rattle.std.proofs.lemmas.Bool.{cases_eq}
 use Rattle.std.proofs.lemmas.List.{length-set, get_or-set_same, get_or-set_other, drop_more}
-use Rattle.std.proofs.lemmas.Option.{slice_get_within, get_or_from_slice_get}
+use Rattle.std.proofs.lemmas.Option.{same_Some, slice_get_within, get_or_from_slice_get}
 use Rattle.id_arena.specs.declared.keys.ChipNetId.{ChipNetId}
 use Rattle.id_arena.specs.declared.keys.ChipId.{ChipId}
 use Rattle.id_arena.specs.declared.keys.NetId.{NetId}
 use Rattle.id_arena.specs.declared.keys.RegId.{RegId}
+use Rattle.id_arena.specs.declared.keys.WireId.{WireId}
 use Rattle.id_arena.specs.declared.wire.Wire.{Wire}
 use Rattle.emu_machine.specs.declared.netlist.EmuRegister.{EmuRegister}
 use Rattle.emu_machine.specs.declared.schedule.Action.{Action}
-use Rattle.emu_machine.specs.declared.schedule.Action.TheVariants.{Input, Load}
+use Rattle.emu_machine.specs.declared.schedule.Action.TheVariants.{Input, Load, Send}
 use Rattle.emu_machine.specs.declared.results.Results.{Results}
 use Rattle.emu_machine.specs.Netlist.{chip_at, is_chip_net}
-use Rattle.emu_machine.specs.State.{net_value, on_register, loaded_value, action_value, first_given}
-use Rattle.history_law.proofs.Naming.{same_number}
-use Rattle.cycle_sim.specs.Standing.{CanRun, IsThere, RegisterStands}
+use Rattle.emu_machine.specs.State.{State, net_value, on_register, loaded_value, arriving, action_value, first_given}
+use Rattle.facts.proofs.Tests.{same_number}
+use Rattle.cycle_sim.specs.Standing.{CanRun, CanTake, IsThere, RegisterStands}
 use Rattle.cycle_sim.specs.Values.{value_in}
 use Rattle.cycle_sim.specs.Tables.{cell, state_of, HaveSizes, AllShown}
 use Rattle.cycle_sim.specs.Takes.{HasGiven, HasTakenOne, HasTaken}
 use Rattle.cycle_sim.proofs.Counting.{is_other}
-use Rattle.cycle_sim.proofs.Chips.{net_is, chip_low, low_in, register_stands, q_in}
+use Rattle.cycle_sim.proofs.Chips.{net_is, chip_low, net_chip_low, low_in, register_stands, q_in}
 
 -- ## One value is put
 
@@ -85,29 +86,40 @@ module _ (held : List (List Bool)) (chip q : ℕ) (value : Bool) (low_c : chip <
 
 -- ## One action
 
-module _ (r : Results) (shown : List (List Bool)) (outside : List Bool) (chip : ChipId) (number : RegId) (register : EmuRegister) (at : slice_get (chip_at r.net chip.place).registers number.place ≡ Some register) where
+-- the state in which registers hold these values
+abbrev pub started : List (List Bool) → List Bool → List Bool → State
+started start outside carried = state_of (record { held = start; outside = outside; carried = carried })
+
+module _ (r : Results) (wires : List Wire) (shown : List (List Bool)) (outside carried : List Bool) (chip number : ℕ) (register : EmuRegister) (at : slice_get (chip_at r.net chip).registers number ≡ Some register) where
   abbrev reading : (EmuRegister → Option Bool) → ℕ → Option EmuRegister → Option Bool
   reading gives n o = option_and_then (λ one. if is_chip_net n one.q then gives one else None) o
 
-  on_is : (gives : EmuRegister → Option Bool) (c n : ℕ) → on_register r.net chip.place number.place gives c n ≡ given_at chip.place register.q.place (gives register) c n
-  on_is gives c n = go (cases_eq c chip.place)
+  on_is : (gives : EmuRegister → Option Bool) (c n : ℕ) → on_register r.net chip number gives c n ≡ given_at chip register.q.place (gives register) c n
+  on_is gives c n = go (cases_eq c chip)
     where
-      go : (c ≡ chip.place) ⊎ (c ≡ chip.place → ⊥) → on_register r.net chip.place number.place gives c n ≡ given_at chip.place register.q.place (gives register) c n
+      go : (c ≡ chip) ⊎ (c ≡ chip → ⊥) → on_register r.net chip number gives c n ≡ given_at chip register.q.place (gives register) c n
       go (inl same) =
-          ap (λ (k : ℕ). on_register r.net chip.place number.place gives k n) same
-          ∙ ap (λ o. if chip.place == chip.place then reading gives n o else None) at
-          ∙ ap (λ (k : ℕ). given_at chip.place register.q.place (gives register) k n) (sym same)
+          ap (λ (k : ℕ). on_register r.net chip number gives k n) same
+          ∙ ap (λ o. if chip == chip then reading gives n o else None) at
+          ∙ ap (λ (k : ℕ). given_at chip register.q.place (gives register) k n) (sym same)
       go (inr other) =
-          ap (λ b. if b then reading gives n (slice_get (chip_at r.net c).registers number.place) else None) (is_other chip.place c (λ e. other (sym e)))
-          ∙ sym (ap (λ b. if b then (if register.q.place == n then gives register else None) else None) (is_other chip.place c (λ e. other (sym e))))
+          ap (λ b. if b then reading gives n (slice_get (chip_at r.net c).registers number) else None) (is_other chip c (λ e. other (sym e)))
+          ∙ sym (ap (λ b. if b then (if register.q.place == n then gives register else None) else None) (is_other chip c (λ e. other (sym e))))
 
-  pub input_taken : (net : NetId) (held : List (List Bool)) → chip.place < length held → register.q.place < length (get_or held chip.place [])
-      → (value : Bool) → value ≡ get_or outside net.place false
-      → HasTakenOne r shown outside (Input chip number net) held (put_at held chip.place register.q.place value)
-  input_taken net held low_c low_q value is wires start all c n =
-      put_some held chip.place register.q.place value low_c low_q c n
-      ∙ ap (λ b. unwrap_or (given_at chip.place register.q.place (Some b) c n) (cell held c n)) is
-      ∙ ap (λ o. unwrap_or o (cell held c n)) (sym (on_is (λ one. Some (get_or outside net.place false)) c n))
+  -- a value is put, as something gives it to the register
+  given_put : (gives : EmuRegister → Option Bool) (held : List (List Bool)) → chip < length held → register.q.place < length (get_or held chip [])
+      → (value : Bool) → Some value ≡ gives register → HasGiven (on_register r.net chip number gives) held (put_at held chip register.q.place value)
+  given_put gives held low_c low_q value is c n =
+      put_some held chip register.q.place value low_c low_q c n
+      ∙ ap (λ o. unwrap_or (given_at chip register.q.place o c n) (cell held c n)) is
+      ∙ ap (λ o. unwrap_or o (cell held c n)) (sym (on_is gives c n))
+
+  -- and nothing is put, where it gives none
+  none_put : (gives : EmuRegister → Option Bool) (held : List (List Bool)) → None ≡ gives register → HasGiven (on_register r.net chip number gives) held held
+  none_put gives held is c n =
+      put_none held chip register.q.place c n
+      ∙ ap (λ o. unwrap_or (given_at chip register.q.place o c n) (cell held c n)) is
+      ∙ ap (λ o. unwrap_or o (cell held c n)) (sym (on_is gives c n))
 
   loaded_same : (f g : ChipNetId → Bool) (nets : ℕ) (d enable : Option ChipNetId) → IfSome d (IsThere nets) → IfSome enable (IsThere nets)
       → ((m : ChipNetId) → m.place < nets → f m ≡ g m) → loaded_value f d enable ≡ loaded_value g d enable
@@ -116,99 +128,124 @@ module _ (r : Results) (shown : List (List Bool)) (outside : List Bool) (chip : 
   loaded_same f g nets (Some d) (Some e) in_d in_e same =
       ap (λ b. if b then Some (f d) else None) (same e in_e) ∙ ap (λ b. if g e then Some b else None) (same d in_d)
 
-  module _ (low : chip.place < length r.net) (stands : RegisterStands (chip_at r.net chip.place).nets register) (held : List (List Bool)) where
-    reads : (start : List (List Bool)) → AllShown r start shown
-        → loaded_value (value_in (get_or shown chip.place [])) register.d register.enable
-        ≡ loaded_value (λ m. net_value r.net (state_of (record { held = start; outside = outside })) chip.place m.place) register.d register.enable
-    reads start all =
-        loaded_same (value_in (get_or shown chip.place [])) (λ m. net_value r.net (state_of (record { held = start; outside = outside })) chip.place m.place)
-        (chip_at r.net chip.place).nets register.d register.enable stands.d stands.enable
-        (λ m there. net_is r start shown outside all chip.place m.place low there)
-
-    gives_is : (start : List (List Bool)) → AllShown r start shown → (o : Option Bool) → o ≡ loaded_value (value_in (get_or shown chip.place [])) register.d register.enable
-        → (wires : List Wire) (c n : ℕ)
-        → unwrap_or (given_at chip.place register.q.place o c n) (cell held c n)
-        ≡ unwrap_or (action_value r.net wires (state_of (record { held = start; outside = outside })) (Load chip number) c n) (cell held c n)
-    gives_is start all o is wires c n =
-        ap (λ p. unwrap_or (given_at chip.place register.q.place p c n) (cell held c n)) (is ∙ reads start all)
-        ∙ ap (λ p. unwrap_or p (cell held c n))
-        (sym (on_is (λ one. loaded_value (λ m. net_value r.net (state_of (record { held = start; outside = outside })) chip.place m.place) one.d one.enable) c n))
-
-    pub load_taken : chip.place < length held → register.q.place < length (get_or held chip.place [])
-        → (value : Bool) → Some value ≡ loaded_value (value_in (get_or shown chip.place [])) register.d register.enable
-        → HasTakenOne r shown outside (Load chip number) held (put_at held chip.place register.q.place value)
-    load_taken low_c low_q value is wires start all c n =
-        put_some held chip.place register.q.place value low_c low_q c n ∙ gives_is start all (Some value) is wires c n
-
-    pub load_kept : None ≡ loaded_value (value_in (get_or shown chip.place [])) register.d register.enable
-        → HasTakenOne r shown outside (Load chip number) held held
-    load_kept is wires start all c n =
-        put_none held chip.place register.q.place c n ∙ gives_is start all None is wires c n
+  -- what a load reads is what the nets show
+  reads : chip < length r.net → RegisterStands (chip_at r.net chip).nets register → (start : List (List Bool)) → AllShown r start shown
+      → loaded_value (value_in (get_or shown chip [])) register.d register.enable
+      ≡ loaded_value (λ m. net_value r.net (started start outside carried) chip m.place) register.d register.enable
+  reads low stands start all =
+      loaded_same (value_in (get_or shown chip [])) (λ m. net_value r.net (started start outside carried) chip m.place)
+      (chip_at r.net chip).nets register.d register.enable stands.d stands.enable
+      (λ m there. net_is r (record { held = start; outside = outside; carried = carried }) shown all chip m.place low there)
 
 -- the same, of an action by its form
-module _ (r : Results) (nets : ℕ) (outside : List Bool) (runs : CanRun r nets) (chip : ChipId) (number : RegId) (register : EmuRegister) (at : slice_get (chip_at r.net chip.place).registers number.place ≡ Some register) (shown : List (List Bool)) where
-  pub input_done : (net : NetId) (action : Action) → action ≡ Input chip number net
-      → (held : List (List Bool)) → HaveSizes r held → (value : Bool) → value ≡ get_or outside net.place false
-      → (after : List (List Bool)) → after ≡ put_at held chip.place register.q.place value
-      → HasTakenOne r shown outside action held after
-  input_done net action is held sizes value reads after put =
-      subst (λ a. HasTakenOne r shown outside a held after) (sym is)
-      (subst (λ h. HasTakenOne r shown outside (Input chip number net) held h) (sym put)
-      (input_taken r shown outside chip number register at net held
-      (low_in r chip.place number.place register at held sizes)
-      (q_in r chip.place number.place register at nets runs held sizes)
-      value reads))
+module _ (r : Results) (wires : List Wire) (nets : ℕ) (outside carried : List Bool) (runs : CanRun r wires nets) (shown held : List (List Bool)) (sizes : HaveSizes r held) where
+  module _ (chip : ChipId) (number : RegId) (register : EmuRegister) (at : slice_get (chip_at r.net chip.place).registers number.place ≡ Some register) where
+    low_chip : chip.place < length held
+    low_chip = low_in r chip.place number.place register at held sizes
 
-  module _ (table : List Bool) (table_is : table ≡ get_or shown chip.place []) (action : Action) (is : action ≡ Load chip number) (held : List (List Bool)) where
-    pub load_left : None ≡ loaded_value (value_in table) register.d register.enable → HasTakenOne r shown outside action held held
-    load_left gives =
-        subst (λ a. HasTakenOne r shown outside a held held) (sym is)
-        (load_kept r shown outside chip number register at (chip_low r chip.place number.place register at)
-        (register_stands r chip.place number.place register at nets runs) held
-        (gives ∙ ap (λ t. loaded_value (value_in t) register.d register.enable) table_is))
+    low_net : register.q.place < length (get_or held chip.place [])
+    low_net = q_in r chip.place number.place register at wires nets runs held sizes
 
-    pub load_done : HaveSizes r held → (value : Bool) → Some value ≡ loaded_value (value_in table) register.d register.enable
-        → (after : List (List Bool)) → after ≡ put_at held chip.place register.q.place value → HasTakenOne r shown outside action held after
-    load_done sizes value gives after put =
-        subst (λ a. HasTakenOne r shown outside a held after) (sym is)
-        (subst (λ h. HasTakenOne r shown outside (Load chip number) held h) (sym put)
-        (load_taken r shown outside chip number register at (chip_low r chip.place number.place register at)
-        (register_stands r chip.place number.place register at nets runs) held
-        (low_in r chip.place number.place register at held sizes)
-        (q_in r chip.place number.place register at nets runs held sizes)
-        value (gives ∙ ap (λ t. loaded_value (value_in t) register.d register.enable) table_is)))
+    pub input_done : (net : NetId) (action : Action) → action ≡ Input chip number net
+        → (value : Bool) → value ≡ get_or outside net.place false
+        → (after : List (List Bool)) → after ≡ put_at held chip.place register.q.place value
+        → HasTakenOne r wires shown outside carried action held after
+    input_done net action is value reads_it after put =
+        subst (λ a. HasTakenOne r wires shown outside carried a held after) (sym is)
+        (subst (λ h. HasTakenOne r wires shown outside carried (Input chip number net) held h) (sym put)
+        (λ start all. given_put r wires shown outside carried chip.place number.place register at (λ one. Some (get_or outside net.place false)) held low_chip low_net value (ap Some reads_it)))
+
+    module _ (table : List Bool) (table_is : table ≡ get_or shown chip.place []) (action : Action) (is : action ≡ Load chip number) where
+      loads : (start : List (List Bool)) → AllShown r start shown → (o : Option Bool) → o ≡ loaded_value (value_in table) register.d register.enable
+          → o ≡ loaded_value (λ m. net_value r.net (started start outside carried) chip.place m.place) register.d register.enable
+      loads start all o gives =
+          gives
+          ∙ ap (λ t. loaded_value (value_in t) register.d register.enable) table_is
+          ∙ reads r wires shown outside carried chip.place number.place register at (chip_low r chip.place number.place register at)
+          (register_stands r chip.place number.place register at wires nets runs) start all
+
+      pub load_left : None ≡ loaded_value (value_in table) register.d register.enable → HasTakenOne r wires shown outside carried action held held
+      load_left gives =
+          subst (λ a. HasTakenOne r wires shown outside carried a held held) (sym is)
+          (λ start all. none_put r wires shown outside carried chip.place number.place register at
+          (λ one. loaded_value (λ m. net_value r.net (started start outside carried) chip.place m.place) one.d one.enable) held (loads start all None gives))
+
+      pub load_done : (value : Bool) → Some value ≡ loaded_value (value_in table) register.d register.enable
+          → (after : List (List Bool)) → after ≡ put_at held chip.place register.q.place value → HasTakenOne r wires shown outside carried action held after
+      load_done value gives after put =
+          subst (λ a. HasTakenOne r wires shown outside carried a held after) (sym is)
+          (subst (λ h. HasTakenOne r wires shown outside carried (Load chip number) held h) (sym put)
+          (λ start all. given_put r wires shown outside carried chip.place number.place register at
+          (λ one. loaded_value (λ m. net_value r.net (started start outside carried) chip.place m.place) one.d one.enable) held low_chip low_net value (loads start all (Some value) gives)))
+
+  module _ (wire : WireId) (net : ChipNetId) (number : RegId) (ends : Wire) (here : slice_get wires wire.place ≡ Some ends) (register : EmuRegister) (at : slice_get (chip_at r.net ends.to.place).registers number.place ≡ Some register) where
+    -- what arrives is what the net shows, or what the wire has carried
+    arrives : net.place < (chip_at r.net ends.from.place).nets → (start : List (List Bool)) → AllShown r start shown
+        → (if ends.latency == 1 then value_in (get_or shown ends.from.place []) net else get_or carried wire.place false)
+        ≡ arriving r.net (started start outside carried) ends wire.place net
+    arrives low start all =
+        ap (λ b. if ends.latency == 1 then b else get_or carried wire.place false)
+        (net_is r (record { held = start; outside = outside; carried = carried }) shown all ends.from.place net.place (net_chip_low r.net ends.from.place net.place low) low)
+
+    -- a net that the action names is there
+    net_there : (action : Action) → action ≡ Send wire net number → CanTake r wires nets action → net.place < (chip_at r.net ends.from.place).nets
+    net_there action is can =
+        let (one, is_one, register_is, low) = subst (CanTake r wires nets) is can in
+        subst (λ (e : Wire). net.place < (chip_at r.net e.from.place).nets) (same_Some one ends (sym is_one ∙ here)) low
+
+    pub send_done : (action : Action) → action ≡ Send wire net number → CanTake r wires nets action
+        → (value : Bool) → value ≡ (if ends.latency == 1 then value_in (get_or shown ends.from.place []) net else get_or carried wire.place false)
+        → (after : List (List Bool)) → after ≡ put_at held ends.to.place register.q.place value
+        → HasTakenOne r wires shown outside carried action held after
+    send_done action is can value gives after put =
+        subst (λ a. HasTakenOne r wires shown outside carried a held after) (sym is)
+        (subst (λ h. HasTakenOne r wires shown outside carried (Send wire net number) held h) (sym put) go)
+      where
+        low : net.place < (chip_at r.net ends.from.place).nets
+        low = net_there action is can
+
+        go : HasTakenOne r wires shown outside carried (Send wire net number) held (put_at held ends.to.place register.q.place value)
+        go start all c n =
+            let gives_it : EmuRegister → Option Bool = λ one. Some (arriving r.net (started start outside carried) ends wire.place net) in
+            given_put r wires shown outside carried ends.to.place number.place register at gives_it held
+            (low_in r ends.to.place number.place register at held sizes)
+            (q_in r ends.to.place number.place register at wires nets runs held sizes)
+            value (ap Some (gives ∙ arrives low start all)) c n
+            ∙ ap (λ o. unwrap_or (option_and_then (λ (e : Wire). on_register r.net e.to.place number.place (λ one. Some (arriving r.net (started start outside carried) e wire.place net)) c n) o) (cell held c n)) (sym here)
 
 -- ## Several actions
 
-first_of_two : (o p : Option Bool) (x : Bool) → unwrap_or o (unwrap_or p x) ≡ unwrap_or (option_or o p) x
+pub first_of_two : (o p : Option Bool) (x : Bool) → unwrap_or o (unwrap_or p x) ≡ unwrap_or (option_or o p) x
 first_of_two None p x = refl
 first_of_two (Some y) p x = refl
 
-pub none_taken : (r : Results) (shown : List (List Bool)) (outside : List Bool) (held : List (List Bool)) → HasTaken r shown outside [] held held
-none_taken r shown outside held wires start all c n = refl
+-- the rest of a list, from the place of an action on
+pub split_at : (actions : List Action) (k : ℕ) (left : ℕ) → left ≡ k + 1 → (action : Action) → slice_get actions k ≡ Some action → drop k actions ≡ action ∷ drop left actions
+split_at actions k left next action at =
+    drop_more actions k action (slice_get_within actions k action at)
+    ∙ ap (λ a. a ∷ drop (k + 1) actions) (get_or_from_slice_get actions k action action at)
+    ∙ ap (λ (i : ℕ). action ∷ drop i actions) (sym next)
 
-pub one_taken : (r : Results) (shown : List (List Bool)) (outside : List Bool) (actions : List Action) (k : ℕ) (left : ℕ) → left ≡ k + 1
-    → (action : Action) → slice_get actions k ≡ Some action
-    → (before held after : List (List Bool)) → HasTaken r shown outside (drop left actions) before held → HasTakenOne r shown outside action held after
-    → HasTaken r shown outside (drop k actions) before after
-one_taken r shown outside actions k left next action at before held after rest one =
-    subst (λ (some : List Action). HasTaken r shown outside some before after) (sym split) step
-  where
-    split : drop k actions ≡ action ∷ drop left actions
-    split =
-        drop_more actions k action (slice_get_within actions k action at)
-        ∙ ap (λ a. a ∷ drop (k + 1) actions) (get_or_from_slice_get actions k action action at)
-        ∙ ap (λ (i : ℕ). action ∷ drop i actions) (sym next)
+module _ (r : Results) (wires : List Wire) (shown : List (List Bool)) (outside carried : List Bool) where
+  pub none_taken : (held : List (List Bool)) → HasTaken r wires shown outside carried [] held held
+  none_taken held start all c n = refl
 
-    step : HasTaken r shown outside (action ∷ drop left actions) before after
-    step wires start all c n =
-        one wires start all c n
-        ∙ ap (unwrap_or (action_value r.net wires (state_of (record { held = start; outside = outside })) action c n)) (rest wires start all c n)
-        ∙ first_of_two (action_value r.net wires (state_of (record { held = start; outside = outside })) action c n)
-        (first_given (λ a. action_value r.net wires (state_of (record { held = start; outside = outside })) a c n) (drop left actions))
-        (cell before c n)
+  pub one_taken : (actions : List Action) (k : ℕ) (left : ℕ) → left ≡ k + 1
+      → (action : Action) → slice_get actions k ≡ Some action
+      → (before held after : List (List Bool)) → HasTaken r wires shown outside carried (drop left actions) before held → HasTakenOne r wires shown outside carried action held after
+      → HasTaken r wires shown outside carried (drop k actions) before after
+  one_taken actions k left next action at before held after rest one =
+      subst (λ (some : List Action). HasTaken r wires shown outside carried some before after) (sym (split_at actions k left next action at)) step
+    where
+      step : HasTaken r wires shown outside carried (action ∷ drop left actions) before after
+      step start all c n =
+          one start all c n
+          ∙ ap (unwrap_or (action_value r.net wires (started start outside carried) action c n)) (rest start all c n)
+          ∙ first_of_two (action_value r.net wires (started start outside carried) action c n)
+          (first_given (λ a. action_value r.net wires (started start outside carried) a c n) (drop left actions))
+          (cell before c n)
 
-pub all_taken : (r : Results) (shown : List (List Bool)) (outside : List Bool) (actions : List Action) (left : ℕ) → left ≡ 0 → (before after : List (List Bool))
-    → HasTaken r shown outside (drop left actions) before after → HasTaken r shown outside actions before after
-all_taken r shown outside actions left none before after h =
-    subst (λ (k : ℕ). HasTaken r shown outside (drop k actions) before after) none h
+  pub all_taken : (actions : List Action) (left : ℕ) → left ≡ 0 → (before after : List (List Bool))
+      → HasTaken r wires shown outside carried (drop left actions) before after → HasTaken r wires shown outside carried actions before after
+  all_taken actions left none before after h =
+      subst (λ (k : ℕ). HasTaken r wires shown outside carried (drop k actions) before after) none h

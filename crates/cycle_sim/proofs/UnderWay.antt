@@ -1,24 +1,27 @@
 -- Slots of a frame, where the nets show what came to them at some time.
-use Rattle.std.proofs.Common.{◌≡◌, ◌<◌, ℕ, Bool, true, false, List, [], ◌∷◌, get_or, length, refl, sym, ap, subst, ◌∙◌, inl, inr}
+use Rattle.std.proofs.Common.{◌≡◌, ℕ, Bool, true, false, List, [], ◌∷◌, get_or, refl, sym, ap, subst, ◌∙◌, inl, inr, if◌then◌else◌}
 use Rattle.std.proofs.Math.Path.{fun_ext}
-use Rattle.std.specs.Prelude.{◌⊎◌, ◌||◌, Some, slice_get, unwrap_or, All}
+use Rattle.std.specs.Prelude.{◌⊎◌, ◌||◌, ◌&&◌, ◌==◌, not, Option, Some, None, slice_get, unwrap_or, option_and_then}
 use Rattle.std.specs.List.{list_all}
-use Rattle.std.specs.Option.{option_or}
-use Rattle.history_law.proofs.Lists.{no}
+use Rattle.std.specs.Option.{option_or, option_map_or}
+use Rattle.std.proofs.lemmas.Bool.{and_parts}
+use Rattle.facts.proofs.Tests.{no, not_true}
 use Rattle.id_arena.specs.declared.wire.Wire.{Wire}
-use Rattle.emu_machine.specs.declared.netlist.Chip.{Chip}
 use Rattle.emu_machine.specs.declared.schedule.Action.{Action}
 use Rattle.emu_machine.specs.declared.schedule.Action.TheVariants.{Input, Load, Send, Write, Read}
+use Rattle.emu_machine.specs.declared.schedule.Slot.{Slot}
 use Rattle.emu_machine.specs.declared.results.Results.{Results}
 use Rattle.emu_machine.specs.Netlist.{through_gates}
-use Rattle.emu_machine.specs.State.{action_value, first_given, slot_step}
-use Rattle.cycle_sim.specs.Standing.{CanRun, ActionStands}
-use Rattle.cycle_sim.specs.Steps.{HasSteps}
-use Rattle.cycle_sim.specs.Tables.{Tables, cell, state_of, HaveSizes, AllShown, AllStepped, IsMachine, IsUnderWay}
-use Rattle.cycle_sim.specs.Takes.{HasGiven, HasTaken, takes_input}
+use Rattle.emu_machine.specs.State.{net_value, on_register, action_value, action_carried, first_given, actions_of, ending, slot_step}
+use Rattle.cycle_sim.specs.Standing.{SlotsStand}
+use Rattle.cycle_sim.specs.Tables.{Tables, cell, HaveSizes, AllShown, IsFresh, IsUnderWay}
+use Rattle.cycle_sim.specs.Takes.{HasGiven, HasTaken, IsCarrying, HasSent, is_direct, takes_no_net, sends_nothing}
 use Rattle.cycle_sim.specs.Values.{AreShown, gate_gives}
 use Rattle.cycle_sim.specs.declared.steps.Step.{Step}
+use Rattle.cycle_sim.proofs.Fitting.{starting_taken}
+use Rattle.cycle_sim.proofs.Sending.{nothing_sent}
 use Rattle.cycle_sim.proofs.SlotSteps.{stepped}
+use Rattle.cycle_sim.proofs.Taking.{started}
 
 -- ## What nets show
 
@@ -40,99 +43,120 @@ shown_sizes r held shown all = record { count = all.count; sizes = λ c chip at.
 
 -- ## What actions give
 
--- what input actions give does not hang on what registers hold
-inputs_alone : (r : Results) (wires : List Wire) (outside : List Bool) (start before : List (List Bool)) (actions : List Action)
-    → list_all takes_input actions ≡ true → (c n : ℕ)
-    → first_given (λ a. action_value r.net wires (state_of (record { held = start; outside = outside })) a c n) actions
-    ≡ first_given (λ a. action_value r.net wires (state_of (record { held = before; outside = outside })) a c n) actions
-inputs_alone r wires outside start before [] all c n = refl
-inputs_alone r wires outside start before (Input chip register net ∷ actions) all c n =
-    ap (option_or (action_value r.net wires (state_of (record { held = before; outside = outside })) (Input chip register net) c n))
-    (inputs_alone r wires outside start before actions all c n)
-inputs_alone r wires outside start before (Load chip register ∷ actions) all c n = no all
-inputs_alone r wires outside start before (Send wire net register ∷ actions) all c n = no all
-inputs_alone r wires outside start before (Write chip mem port ∷ actions) all c n = no all
-inputs_alone r wires outside start before (Read chip mem port ∷ actions) all c n = no all
+module _ (r : Results) (wires : List Wire) (outside carried : List Bool) (start before : List (List Bool)) where
+  -- what a `send` over a longer wire gives does not hang on what registers hold
+  late_alone : (wire net : ℕ) (gives : Wire → Bool → Option Bool) (o : Option Wire) → slice_get wires wire ≡ o → not (is_direct wires wire) ≡ true
+      → option_and_then (λ ends. gives ends (if ends.latency == 1 then net_value r.net (started start outside carried) ends.from.place net else get_or carried wire false)) o
+      ≡ option_and_then (λ ends. gives ends (if ends.latency == 1 then net_value r.net (started before outside carried) ends.from.place net else get_or carried wire false)) o
+  late_alone wire net gives None at late = refl
+  late_alone wire net gives (Some ends) at late =
+      let longer : (ends.latency == 1) ≡ false = sym (ap (λ o. option_map_or (λ (e : Wire). e.latency == 1) o false) at) ∙ not_true (is_direct wires wire) late in
+      ap (λ b. gives ends (if b then net_value r.net (started start outside carried) ends.from.place net else get_or carried wire false)) longer
+      ∙ sym (ap (λ b. gives ends (if b then net_value r.net (started before outside carried) ends.from.place net else get_or carried wire false)) longer)
+
+  -- nor does what other actions give that read no net
+  one_alone : (a : Action) → takes_no_net wires a ≡ true → (c n : ℕ)
+      → action_value r.net wires (started start outside carried) a c n ≡ action_value r.net wires (started before outside carried) a c n
+  one_alone (Input chip register net) alone c n = refl
+  one_alone (Load chip register) alone c n = no alone
+  one_alone (Send wire net register) alone c n =
+      late_alone wire.place net.place (λ ends b. on_register r.net ends.to.place register.place (λ q. Some b) c n) (slice_get wires wire.place) refl alone
+  one_alone (Write chip mem port) alone c n = no alone
+  one_alone (Read chip mem port) alone c n = no alone
+
+  all_alone : (actions : List Action) → list_all (takes_no_net wires) actions ≡ true → (c n : ℕ)
+      → first_given (λ a. action_value r.net wires (started start outside carried) a c n) actions
+      ≡ first_given (λ a. action_value r.net wires (started before outside carried) a c n) actions
+  all_alone [] all c n = refl
+  all_alone (a ∷ actions) all c n =
+      let parts = and_parts (takes_no_net wires a) (list_all (takes_no_net wires) actions) all in
+      ap (λ o. option_or o (first_given (λ one. action_value r.net wires (started start outside carried) one c n) actions)) (one_alone a parts.0 c n)
+      ∙ ap (option_or (action_value r.net wires (started before outside carried) a c n)) (all_alone actions parts.1 c n)
 
 -- the nets show what came to them at some time, and now where an action reads one, or where they are fresh
-pub record Serves (r : Results) (actions : List Action) (fresh : Bool) (held shown : List (List Bool)) : Type 0 where
+pub record Serves (r : Results) (wires : List Wire) (starts ends : List Action) (fresh : Bool) (held shown : List (List Bool)) : Type 0 where
   pub start : List (List Bool)
   pub shows : AllShown r start shown
   pub now : fresh ≡ true → AllShown r held shown
-  pub enough : AllShown r held shown ⊎ (list_all takes_input actions ≡ true)
+  pub enough : AllShown r held shown ⊎ ((list_all (takes_no_net wires) ends ≡ true) × (list_all sends_nothing starts ≡ true))
 
 -- nets that got their values, unless no action reads them
-pub served : (r : Results) (t : Tables) (shown after : List (List Bool)) (steps : List (List Step)) (actions : List Action) (fresh spared : Bool)
-    → IsUnderWay r t shown steps fresh
-    → spared ≡ (fresh || list_all takes_input actions)
+pub served : (r : Results) (wires : List Wire) (t : Tables) (shown after : List (List Bool)) (steps : List (List Step)) (starts ends : List Action) (fresh spared : Bool)
+    → IsUnderWay r wires t shown steps fresh
+    → spared ≡ (fresh || (list_all (takes_no_net wires) ends && list_all sends_nothing starts))
     → (spared ≡ true → after ≡ shown)
     → (spared ≡ false → AllShown r t.held after)
-    → Serves r actions fresh t.held after
-served r t shown after steps actions fresh false under is same settled =
+    → Serves r wires starts ends fresh t.held after
+served r wires t shown after steps starts ends fresh false under is same settled =
     let now : AllShown r t.held after = settled refl in
     record { start = t.held; shows = now; now = λ f. now; enough = inl now }
-served r t shown after steps actions true true under is same settled =
+served r wires t shown after steps starts ends true true under is same settled =
     let now : AllShown r t.held after = subst (AllShown r t.held) (sym (same refl)) (under.now refl) in
     record { start = t.held; shows = now; now = λ f. now; enough = inl now }
-served r t shown after steps actions false true under is same settled =
+served r wires t shown after steps starts ends false true under is same settled =
     record {
       start = under.start;
       shows = subst (AllShown r under.start) (sym (same refl)) under.shows;
       now = λ f. no f;
-      enough = inr (sym is);
+      enough = inr (and_parts (list_all (takes_no_net wires) ends) (list_all sends_nothing starts) (sym is));
     }
 
--- what registers take, said of what they held just before
-taken_now : (r : Results) (wires : List Wire) (outside : List Bool) (shown before after : List (List Bool)) (actions : List Action) (fresh : Bool)
-    → Serves r actions fresh before shown
-    → HasTaken r shown outside actions before after
-    → HasGiven (λ c n. first_given (λ a. action_value r.net wires (state_of (record { held = before; outside = outside })) a c n) actions) before after
-taken_now r wires outside shown before after actions fresh serves taken = go serves.enough
-  where
-    go : AllShown r before shown ⊎ (list_all takes_input actions ≡ true)
-        → HasGiven (λ c n. first_given (λ a. action_value r.net wires (state_of (record { held = before; outside = outside })) a c n) actions) before after
-    go (inl now) = taken wires before now
-    go (inr inputs) = λ c n.
-        taken wires serves.start serves.shows c n
-        ∙ ap (λ o. unwrap_or o (cell before c n)) (inputs_alone r wires outside serves.start before actions inputs c n)
+module _ (r : Results) (wires : List Wire) (outside carried : List Bool) (shown before : List (List Bool)) (starts ends : List Action) (fresh : Bool) (serves : Serves r wires starts ends fresh before shown) where
+  -- what registers take, said of what they held just before
+  taken_now : (after : List (List Bool)) → HasTaken r wires shown outside carried ends before after
+      → HasGiven (λ c n. first_given (λ a. action_value r.net wires (started before outside carried) a c n) ends) before after
+  taken_now after taken = go serves.enough
+    where
+      go : AllShown r before shown ⊎ ((list_all (takes_no_net wires) ends ≡ true) × (list_all sends_nothing starts ≡ true))
+          → HasGiven (λ c n. first_given (λ a. action_value r.net wires (started before outside carried) a c n) ends) before after
+      go (inl now) = taken before now
+      go (inr (alone, none)) = λ c n.
+          taken serves.start serves.shows c n
+          ∙ ap (λ o. unwrap_or o (cell before c n)) (all_alone r wires outside carried serves.start before ends alone c n)
 
--- ## One slot
+  -- what wires are given, said likewise
+  sent_now : (sent : List Bool) → HasSent r wires shown starts carried sent
+      → IsCarrying (λ w. first_given (λ a. action_carried r.net wires (started before outside carried) a w) starts) carried sent
+  sent_now sent has = go serves.enough
+    where
+      go : AllShown r before shown ⊎ ((list_all (takes_no_net wires) ends ≡ true) × (list_all sends_nothing starts ≡ true))
+          → IsCarrying (λ w. first_given (λ a. action_carried r.net wires (started before outside carried) a w) starts) carried sent
+      go (inl now) = has (record { held = before; outside = outside; carried = carried }) now
+      go (inr (alone, none)) = λ w.
+          has (record { held = serves.start; outside = outside; carried = carried }) serves.shows w
+          ∙ ap (λ o. unwrap_or o (get_or carried w false)) (nothing_sent r wires (started serves.start outside carried) starts none w ∙ sym (nothing_sent r wires (started before outside carried) starts none w))
 
-pub slot_taken : (r : Results) (nets : ℕ) (outside : List Bool) (shown before after : List (List Bool)) (actions : List Action) (fresh : Bool)
-    → All (ActionStands r nets) actions
-    → Serves r actions fresh before shown
-    → HasTaken r shown outside actions before after
-    → (wires : List Wire)
-    → state_of (record { held = after; outside = outside }) ≡ slot_step r.net wires actions (state_of (record { held = before; outside = outside }))
-slot_taken r nets outside shown before after actions fresh stand serves taken wires =
-    stepped r nets wires outside before after actions stand (taken_now r wires outside shown before after actions fresh serves taken)
+  -- ## One slot
 
--- the nets stay fresh where there is no action
-pub still_fresh : (r : Results) (outside : List Bool) (shown before after : List (List Bool)) (actions : List Action) (fresh still : Bool)
-    → Serves r actions fresh before shown
-    → HasTaken r shown outside actions before after
-    → (still ≡ true → (fresh ≡ true) × (actions ≡ []))
-    → still ≡ true → AllShown r after shown
-still_fresh r outside shown before after actions fresh still serves taken tells is =
-    let (was, none) = tells is in
-    let held : cell before ≡ cell after =
-    fun_ext (λ c. fun_ext (λ n.
-    sym (subst (λ (some : List Action). HasTaken r shown outside some before after) none taken [] serves.start serves.shows c n))) in
-    same_shown r before after shown held (serves.now was)
+  pub slot_done : (nets : ℕ) (slots : List Slot) (t : ℕ) → starts ≡ actions_of slots t → ends ≡ ending wires slots t
+      → SlotsStand r wires nets slots
+      → (after : List (List Bool)) → HasTaken r wires shown outside carried ends before after
+      → (sent : List Bool) → HasSent r wires shown starts carried sent
+      → started after outside sent ≡ slot_step r.net wires slots t (started before outside carried)
+  slot_done nets slots t start_is end_is stand after taken sent has =
+      stepped r wires nets slots t outside before after carried sent (starting_taken r wires nets slots t stand)
+      (subst (λ (some : List Action). HasGiven (λ c n. first_given (λ a. action_value r.net wires (started before outside carried) a c n) some) before after) end_is (taken_now after taken))
+      (subst (λ (some : List Action). IsCarrying (λ w. first_given (λ a. action_carried r.net wires (started before outside carried) a w) some) carried sent) start_is (sent_now sent has))
+
+  -- the nets stay fresh where no register takes anything
+  pub still_fresh : (after : List (List Bool)) (still : Bool) → HasTaken r wires shown outside carried ends before after
+      → (still ≡ true → (fresh ≡ true) × (ends ≡ []))
+      → still ≡ true → AllShown r after shown
+  still_fresh after still taken tells is =
+      let (was, none) = tells is in
+      let held : cell before ≡ cell after =
+      fun_ext (λ c. fun_ext (λ n.
+      sym (subst (λ (some : List Action). HasTaken r wires shown outside carried some before after) none taken serves.start serves.shows c n))) in
+      same_shown r before after shown held (serves.now was)
 
 -- ## The last slot
 
-pub settled_at_last : (r : Results) (t : Tables) (shown after : List (List Bool)) (steps : List (List Step)) (fresh : Bool)
-    → IsUnderWay r t shown steps fresh
+pub settled_at_last : (r : Results) (wires : List Wire) (t : Tables) (shown after : List (List Bool)) (steps : List (List Step)) (fresh : Bool)
+    → IsUnderWay r wires t shown steps fresh
     → (fresh ≡ true → after ≡ shown)
     → (fresh ≡ false → AllShown r t.held after)
-    → IsMachine r t after steps
-settled_at_last r t shown after steps true under same settled =
-    record {
-      runs = under.runs;
-      held = under.held;
-      stepped = under.stepped;
-      settled = subst (AllShown r t.held) (sym (same refl)) (under.now refl);
-    }
-settled_at_last r t shown after steps false under same settled =
-    record { runs = under.runs; held = under.held; stepped = under.stepped; settled = settled refl }
+    → IsFresh r wires t after steps
+settled_at_last r wires t shown after steps true under same settled =
+    record { equipped = under.equipped; shows = subst (AllShown r t.held) (sym (same refl)) (under.now refl) }
+settled_at_last r wires t shown after steps false under same settled =
+    record { equipped = under.equipped; shows = settled refl }

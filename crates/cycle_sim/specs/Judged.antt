@@ -11,23 +11,27 @@ use Rattle.emu_machine.specs.Plain.{IsPlainResults}
 use Rattle.cycle_sim.specs.Standing.{CanRun}
 use Rattle.cycle_sim.specs.Loading.{CanLoad}
 
--- plain results for a design and its groups, with one driver for each net and a map of their counts, of which
--- A2, A5 and A7 hold
-pub record IsJudged (c : Case) : Type 0 where
-  pub inside : ℕ → NodeId → Bool
+-- plain results for a design and its groups, with one driver for each net of a chip
+pub record IsPlainCase (c : Case) : Type 0 where
   pub design : IsDesign c.design
   pub groups : (k : ℕ) (g : Group) → slice_get c.groups k ≡ Some g → IsGroup c.design g
   pub netlist : IsNetlist c.results.net
-  pub mapped : MapFits c.results
   pub plain : IsPlainResults c.results
-  pub no_cycle : Holds c inside A2
-  pub actions : Holds c inside A5
-  pub fitting : Holds c inside A7
 
--- the machine can run them
+-- where A2 and A5 hold, the machine can run them over the wires of the board
 abbrev pub JudgedCanRun : Type 0
-JudgedCanRun = (c : Case) → IsJudged c → CanRun c.results (net_count c.design)
+JudgedCanRun =
+    (c : Case) (inside : ℕ → NodeId → Bool)
+    → IsPlainCase c
+    → Holds c inside A2
+    → Holds c inside A5
+    → CanRun c.results c.board.wires (net_count c.design)
 
--- a machine can be loaded for them
+-- where their map is of their counts and A7 holds, a machine can be loaded for them
 abbrev pub JudgedCanLoad : Type 0
-JudgedCanLoad = (c : Case) → IsJudged c → CanLoad c.design c.results
+JudgedCanLoad =
+    (c : Case) (inside : ℕ → NodeId → Bool)
+    → MapFits c.results
+    → IsPlainResults c.results
+    → Holds c inside A7
+    → CanLoad c.design c.results

@@ -6,4 +6,5 @@ pub mod Steps
 pub mod Takes
 pub mod Loading
 pub mod Example
+pub mod Relay
 pub mod Judged

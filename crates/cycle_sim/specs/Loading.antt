@@ -1,6 +1,6 @@
 -- What a machine is loaded with from the values of the nets of a design.
 -- The rules are told in docs/RULES.md, "The state map" and "Loaded".
-use Rattle.std.specs.Prelude.{◌≡◌, ◌<◌, ◌&&◌, ℕ, Bool, true, false, if◌then◌else◌, Option, Some, List, [], length, get_or, slice_get, take, zip}
+use Rattle.std.specs.Prelude.{◌≡◌, ◌<◌, ◌&&◌, ◌||◌, ℕ, Bool, true, false, if◌then◌else◌, Option, Some, List, [], length, get_or, slice_get, take, zip}
 use Rattle.std.specs.List.{list_any}
 use Rattle.design_core.specs.declared.parts.Parts.{Parts}
 use Rattle.design_core.specs.Design.{net_count}
@@ -10,13 +10,17 @@ use Rattle.emu_machine.specs.declared.map.ChipMap.{ChipMap}
 use Rattle.emu_machine.specs.declared.map.Subject.{Subject}
 use Rattle.emu_machine.specs.declared.map.Subject.TheVariants.{Net}
 use Rattle.emu_machine.specs.declared.results.Results.{Results}
-use Rattle.emu_machine.specs.Netlist.{is_chip_net}
+use Rattle.emu_machine.specs.Netlist.{chip_at, is_chip_net, read_nets}
 use Rattle.emu_machine.specs.State.{State}
 use Rattle.emu_machine.specs.Mapped.{subject, is_kept, kept_by_register}
 
--- whatever is not kept is 0
+-- whether a net of a chip is the Q of a register, or driven by a read port
+abbrev pub is_source : Chip → ℕ → Bool
+is_source chip n = list_any (λ register. is_chip_net n register.q) chip.registers || list_any (is_chip_net n) (read_nets chip)
+
+-- each register and each read net that is not kept holds 0
 abbrev pub FreeAreZero : Results → State → Type 0
-FreeAreZero r x = (c n : ℕ) → is_kept r c n ≡ false → x.held c n ≡ false
+FreeAreZero r x = (c n : ℕ) → is_source (chip_at r.net c) n ≡ true → is_kept r c n ≡ false → x.held c n ≡ false
 
 -- a net of the design, and nothing else
 abbrev pub IsDesignNet : Parts → Option Subject → Type 0

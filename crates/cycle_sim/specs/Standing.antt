@@ -1,17 +1,19 @@
--- What the machine asks of results: parts that are there, no cycle of gates, and actions whose targets are there.
--- The rules are told in docs/RULES.md, "Netlists of chips" and "Actions, slots and frames".
-use Rattle.std.specs.Prelude.{◌≡◌, ◌<◌, ◌≤◌, ℕ, Some, List, length, slice_get, Contains, All, IfSome}
+-- What the machine asks of results: parts that are there, no cycle of gates, and actions that fit.
+-- The rules are told in docs/RULES.md, "Netlists of chips", "Actions, slots and frames" and "Acceptance".
+use Rattle.std.specs.Prelude.{◌≡◌, ◌<◌, ◌≤◌, ℕ, nat_lt, Bool, true, false, Some, List, [], length, get_or, slice_get, Contains, All, IfSome}
 use Rattle.id_arena.specs.declared.keys.ChipNetId.{ChipNetId}
+use Rattle.id_arena.specs.declared.wire.Wire.{Wire}
 use Rattle.design_core.specs.Limits.{most_inputs}
 use Rattle.emu_machine.specs.declared.netlist.Chip.{Chip}
 use Rattle.emu_machine.specs.declared.netlist.EmuGate.{EmuGate}
 use Rattle.emu_machine.specs.declared.netlist.EmuRegister.{EmuRegister}
 use Rattle.emu_machine.specs.declared.schedule.Action.{Action}
-use Rattle.emu_machine.specs.declared.schedule.Action.TheVariants.{Input, Load}
-use Rattle.emu_machine.specs.declared.schedule.Frame.{Frame}
+use Rattle.emu_machine.specs.declared.schedule.Action.TheVariants.{Input, Load, Send, Write, Read}
 use Rattle.emu_machine.specs.declared.schedule.Slot.{Slot}
 use Rattle.emu_machine.specs.declared.results.Results.{Results}
 use Rattle.emu_machine.specs.Netlist.{chip_at, net_drivers, IsOnCycle}
+use Rattle.emu_machine.specs.State.{frame_slots, actions_of}
+use Rattle.emu_machine.specs.Acceptance.{action_fits}
 
 -- a net of a chip with so many nets
 abbrev pub IsThere : ℕ → ChipNetId → Type 0
@@ -40,18 +42,51 @@ pub record ChipStands (chip : Chip) : Type 0 where
 abbrev pub IsRegister : Results → ℕ → ℕ → Type 0
 IsRegister r c k = (register : EmuRegister) × (slice_get (chip_at r.net c).registers k ≡ Some register)
 
--- an `input` of a net that has an outside value, or a `load`, into a register that is there
-abbrev pub ActionStands : Results → ℕ → Action → Type 0
-ActionStands r nets (Input chip register net) = IsRegister r chip.place register.place × (net.place < nets)
-ActionStands r nets (Load chip register) = IsRegister r chip.place register.place
-ActionStands r nets other = ⊥
+-- whether an action touches a memory
+abbrev pub touches_memory : Action → Bool
+touches_memory (Input chip register net) = false
+touches_memory (Load chip register) = false
+touches_memory (Send wire net register) = false
+touches_memory (Write chip mem port) = true
+touches_memory (Read chip mem port) = true
 
--- the actions of each of some slots stand
-abbrev pub SlotsStand : Results → ℕ → List Slot → Type 0
-SlotsStand r nets slots = (slot : Slot) → Contains slots slot → All (ActionStands r nets) slot.actions
+-- An action of slot `t` of a frame of so many slots stands where it fits there, as rule A5 asks, with the nets
+-- that have an outside value as inputs, and touches no memory.
+pub record ActionStands (r : Results) (wires : List Wire) (nets slots t : ℕ) (action : Action) : Type 0 where
+  pub fits : action_fits r.net wires (λ n. nat_lt n nets) slots t action ≡ true
+  pub no_memory : touches_memory action ≡ false
 
--- Results that the machine runs, where so many nets of the design have an outside value.
-pub record CanRun (r : Results) (nets : ℕ) : Type 0 where
+-- each action of some slots stands
+abbrev pub SlotsStand : Results → List Wire → ℕ → List Slot → Type 0
+SlotsStand r wires nets slots =
+    (t : ℕ) (action : Action) → Contains (actions_of slots t) action → ActionStands r wires nets (length slots) t action
+
+-- Results that the machine runs over these wires, where so many nets of the design have an outside value.
+pub record CanRun (r : Results) (wires : List Wire) (nets : ℕ) : Type 0 where
   pub chips : (c : ℕ) (chip : Chip) → slice_get r.net c ≡ Some chip → ChipStands chip
-  pub actions : (frame : Frame) (slot : Slot) (action : Action)
-      → Contains r.schedule.frames frame → Contains frame.slots slot → Contains slot.actions action → ActionStands r nets action
+  pub actions : (k : ℕ) → SlotsStand r wires nets (frame_slots r k)
+
+-- ## Inside
+
+-- what an action names when it gives a register its value: an `input` a net that has an outside value, a `send` a
+-- wire and a net of its first chip, and each the register
+abbrev pub CanTake : Results → List Wire → ℕ → Action → Type 0
+CanTake r wires nets (Input chip register net) = IsRegister r chip.place register.place × (net.place < nets)
+CanTake r wires nets (Load chip register) = IsRegister r chip.place register.place
+CanTake r wires nets (Send wire net register) =
+    (ends : Wire) × (slice_get wires wire.place ≡ Some ends)
+    × IsRegister r ends.to.place register.place
+    × (net.place < (chip_at r.net ends.from.place).nets)
+CanTake r wires nets (Write chip mem port) = ⊥
+CanTake r wires nets (Read chip mem port) = ⊥
+
+-- what an action names when it puts a value on a wire: the wire, and a net that its first chip shows
+abbrev pub CanSend : List Wire → List (List Bool) → Action → Type 0
+CanSend wires shown (Send wire net register) =
+    (ends : Wire) × (slice_get wires wire.place ≡ Some ends)
+    × (ends.from.place < length shown)
+    × (net.place < length (get_or shown ends.from.place []))
+CanSend wires shown (Input chip register net) = Unit {0}
+CanSend wires shown (Load chip register) = Unit {0}
+CanSend wires shown (Write chip mem port) = Unit {0}
+CanSend wires shown (Read chip mem port) = Unit {0}

@@ -1,34 +1,48 @@
 -- The machine's state as tables of values.
 -- The rules are told in docs/RULES.md, "Actions, slots and frames" and "Loaded".
-use Rattle.std.specs.Prelude.{◌≡◌, ◌<◌, ℕ, Bool, true, false, Some, List, [], length, get_or, slice_get, unwrap_or}
-use Rattle.std.specs.Option.{option_map_or}
+use Rattle.std.specs.Prelude.{◌≡◌, ◌<◌, ℕ, Bool, true, false, Some, List, [], ◌++◌, map, length, get_or, slice_get, unwrap_or}
+use Rattle.std.specs.List.{filter}
+use Rattle.id_arena.specs.declared.wire.Wire.{Wire}
 use Rattle.design_core.specs.declared.values.PortBit.{PortBit}
 use Rattle.design_core.specs.Event.{given}
 use Rattle.emu_machine.specs.declared.netlist.Chip.{Chip}
 use Rattle.emu_machine.specs.declared.schedule.Action.{Action}
 use Rattle.emu_machine.specs.declared.results.Results.{Results}
-use Rattle.emu_machine.specs.State.{State, frame_slots}
+use Rattle.emu_machine.specs.declared.schedule.Slot.{Slot}
+use Rattle.emu_machine.specs.State.{State, frame_slots, Timed, timed, is_last, ending}
 use Rattle.cycle_sim.specs.Standing.{CanRun}
 use Rattle.cycle_sim.specs.Values.{AreShown}
 use Rattle.cycle_sim.specs.declared.steps.Step.{Step}
 use Rattle.cycle_sim.specs.Steps.{HasSteps}
 
--- by chip and net what a register holds there, and by net of the design the outside value of an input
+-- by chip and net what a register holds there, by net of the design the outside value of an input, and by
+-- wire the value that it carries
 pub record Tables : Type 0 where
   pub held : List (List Bool)
   pub outside : List Bool
+  pub carried : List Bool
+
+abbrev pub tables : List (List Bool) → List Bool → List Bool → Tables
+tables held outside carried = record { held = held; outside = outside; carried = carried }
 
 -- a value of a table of tables; what is not there is 0
 abbrev pub cell : List (List Bool) → ℕ → ℕ → Bool
 cell held c n = get_or (get_or held c []) n false
 
--- the state that the tables stand for; there are no memories
+-- The state that the tables stand for. There are no memories, and a wire without a value carries 0.
 abbrev pub state_of : Tables → State
-state_of t = record { held = cell t.held; word = λ c m a. 0; outside = λ n. get_or t.outside n false }
+state_of t =
+    record {
+      held = cell t.held;
+      word = λ c m a. 0;
+      outside = λ n. get_or t.outside n false;
+      carried = λ w. get_or t.carried w false;
+    }
 
--- a machine: the results that it runs, and its state
+-- a machine: the results that it runs, the wires that it runs them over, and its state
 pub record Running : Type 0 where
   pub results : Results
+  pub wires : List Wire
   pub tables : Tables
 
 abbrev pub state : Running → State
@@ -64,31 +78,64 @@ pub record FirstStepped (r : Results) (count : ℕ) (steps : List (List Step)) :
   pub count_is : length steps ≡ count
   pub each : (c : ℕ) (chip : Chip) → c < count → slice_get r.net c ≡ Some chip → HasSteps chip (get_or steps c [])
 
+-- for each slot of a frame the actions that end in it
+pub record AreEndings (wires : List Wire) (slots : List Slot) (endings : List (List Action)) : Type 0 where
+  pub count : length endings ≡ length slots
+  pub each : (t : ℕ) → t < length slots → get_or endings t [] ≡ ending wires slots t
+
+-- the same for each frame
+pub record AllEndings (r : Results) (wires : List Wire) (endings : List (List (List Action))) : Type 0 where
+  pub count : length endings ≡ length r.schedule.frames
+  pub each : (k : ℕ) → k < length r.schedule.frames → AreEndings wires (frame_slots r k) (get_or endings k [])
+
+-- the same for the first frames, with none for the others
+pub record FirstEndings (r : Results) (wires : List Wire) (count : ℕ) (endings : List (List (List Action))) : Type 0 where
+  pub count_is : length endings ≡ count
+  pub each : (k : ℕ) → k < count → k < length r.schedule.frames → AreEndings wires (frame_slots r k) (get_or endings k [])
+
+-- the actions among some that end in slot `t`
+abbrev pub ending_among : List Wire → ℕ → List Timed → List Action
+ending_among wires t actions = map (λ a. a.action) (filter (is_last wires t) actions)
+
+-- for each slot of a frame of so many those of some actions that end in it
+pub record HaveEndings (wires : List Wire) (slots : ℕ) (actions : List Timed) (endings : List (List Action)) : Type 0 where
+  pub count : length endings ≡ slots
+  pub each : (t : ℕ) → t < slots → get_or endings t [] ≡ ending_among wires t actions
+
+-- the same with some more actions, all of slot `t`
+pub record HaveMore (wires : List Wire) (t : ℕ) (actions : List Action) (before after : List (List Action)) : Type 0 where
+  pub count : length after ≡ length before
+  pub each : (u : ℕ) → u < length before → get_or after u [] ≡ get_or before u [] ++ filter (λ a. is_last wires u (timed t a)) actions
+
 -- the results can be run, and the tables of what nets show have all their nets
-pub record IsReady (r : Results) (nets : ℕ) (shown : List (List Bool)) : Type 0 where
-  pub runs : CanRun r nets
+pub record IsReady (r : Results) (wires : List Wire) (nets : ℕ) (shown : List (List Bool)) : Type 0 where
+  pub runs : CanRun r wires nets
   pub sizes : HaveSizes r shown
 
--- the results can be run, the state has all their nets, and the nets show what comes to them
-pub record IsMachine (r : Results) (t : Tables) (shown : List (List Bool)) (steps : List (List Step)) : Type 0 where
-  pub runs : CanRun r (length t.outside)
+-- the results can be run, and what a machine has for each chip, wire and frame is there
+pub record IsEquipped (r : Results) (wires : List Wire) (t : Tables) (steps : List (List Step)) : Type 0 where
+  pub runs : CanRun r wires (length t.outside)
   pub held : HaveSizes r t.held
+  pub carried : length t.carried ≡ length wires
   pub stepped : AllStepped r steps
-  pub settled : AllShown r t.held shown
+
+-- the machine is equipped, and the nets show what comes to them
+pub record IsFresh (r : Results) (wires : List Wire) (t : Tables) (shown : List (List Bool)) (steps : List (List Step)) : Type 0 where
+  pub equipped : IsEquipped r wires t steps
+  pub shows : AllShown r t.held shown
+
+-- the same, with the actions that end in each slot of each frame
+pub record IsMachine (r : Results) (wires : List Wire) (t : Tables) (shown : List (List Bool)) (steps : List (List Step)) (endings : List (List (List Action))) : Type 0 where
+  pub settled : IsFresh r wires t shown steps
+  pub ends : AllEndings r wires endings
 
 -- A machine between two slots of a frame: the nets show what came to them from what registers held at some
 -- time, and where they are told to be fresh, from what registers hold now.
-pub record IsUnderWay (r : Results) (t : Tables) (shown : List (List Bool)) (steps : List (List Step)) (fresh : Bool) : Type 0 where
-  pub runs : CanRun r (length t.outside)
-  pub held : HaveSizes r t.held
-  pub stepped : AllStepped r steps
+pub record IsUnderWay (r : Results) (wires : List Wire) (t : Tables) (shown : List (List Bool)) (steps : List (List Step)) (fresh : Bool) : Type 0 where
+  pub equipped : IsEquipped r wires t steps
   pub start : List (List Bool)
   pub shows : AllShown r start shown
   pub now : fresh ≡ true → AllShown r t.held shown
-
--- the actions of a slot of a frame
-abbrev pub slot_actions : Results → ℕ → ℕ → List Action
-slot_actions r k t = option_map_or (λ slot. slot.actions) (slice_get (frame_slots r k) t) []
 
 -- a table in which the values that are given stand, and otherwise those from before
 abbrev pub HasPut : List PortBit → List Bool → List Bool → Type 0

@@ -18,7 +18,7 @@ use std::marker::Model;
 /// What the registers of a machine hold and which values stand outside when it is opened.
 ///
 /// A clause sees the two tables: by chip and net what a register holds there, and by net of the design
-/// the outside value of an input.
+/// the outside value of an input. The wires carry 0.
 #[derive(Drop)]
 pub struct Loaded {
     held: Vec<List<bool>>,
@@ -26,11 +26,12 @@ pub struct Loaded {
 }
 
 impl Model for Loaded {
+    ghost use Rattle.std.specs.Prelude.{[]};
     ghost use Rattle.cycle_sim.specs.Tables.{Tables};
 
     ghost Value = { Tables };
 
-    ghost view = { λ l. record { held = l.held.items; outside = l.outside.items } };
+    ghost view = { λ l. record { held = l.held.items; outside = l.outside.items; carried = [] } };
 }
 
 impl Loaded {
@@ -86,6 +87,7 @@ fn copy_of(alloc: Global, values: &[bool]) -> Result<Vec<bool>, NoMemory>
 }
 
 /// By chip and net what a register holds there.
+#[tactic(auto, using(crate::proofs::Loads::next_chip))]
 fn held_of(alloc: Global, results: &Results, values: &[bool]) -> Result<Vec<List<bool>>, NoMemory>
     requires { CanLoadRegisters results.now }
     ensures { IfOk result (λ held. AreHeld results.now values.now (length results.now.net) held.items) }
@@ -98,6 +100,7 @@ fn held_of(alloc: Global, results: &Results, values: &[bool]) -> Result<Vec<List
 }
 
 /// By net of a chip what a register holds there.
+#[tactic(auto, using(crate::proofs::Loads::none_held))]
 fn chip_held(
     alloc: Global,
     chip: &Chip,
@@ -121,6 +124,7 @@ fn chip_held(
 }
 
 /// Gives the Q of a register the value of what it stands for, if the register is kept.
+#[tactic(auto, using(crate::proofs::Loads::not_held, crate::proofs::Loads::is_held))]
 fn hold(register: EmuRegister, kept: bool, entry: &ChipMap, values: &[bool], held: &mut List<bool>)
     requires there { register.q.place < length held.old }
     requires subject { register.q.place < length entry.now.nets }

@@ -1,101 +1,129 @@
 //! The machine, slot by slot and event by event.
 
-ghost use Rattle.std.specs.Prelude.{◌≡◌, ◌<◌, ◌∷◌, ℕ, Some, All, List, [], IfOk, get_or, length, slice_get};
-ghost use Rattle.id_arena.specs.declared.wire.Wire.{Wire};
+ghost use Rattle.std.specs.Prelude.{◌≡◌, ◌<◌, ℕ, Some, All, [], IfOk, get_or, length, slice_get};
 ghost use Rattle.emu_machine.specs.declared.netlist.Chip.{Chip};
 ghost use Rattle.emu_machine.specs.declared.netlist.EmuRegister.{EmuRegister};
 ghost use Rattle.emu_machine.specs.Netlist.{chip_at};
-ghost use Rattle.emu_machine.specs.State.{after_frame, after_slots, frame_slots, net_value, present, slot_step};
-ghost use Rattle.cycle_sim.specs.Standing.{CanRun, ChipStands, IsRegister, SlotsStand};
-ghost use Rattle.cycle_sim.specs.Tables.{AllStepped, cell, HasPut, HaveSizes, slot_actions, state};
+ghost use Rattle.emu_machine.specs.State.{after_frame, frame_slots, net_value, present, slot_step};
+ghost use Rattle.cycle_sim.specs.Standing.{CanRun, ChipStands, IsRegister};
+ghost use Rattle.cycle_sim.specs.Tables.{AllStepped, cell, HasPut, HaveSizes, state, state_of};
 
+use crate::endings::all_endings;
 use crate::loaded::Loaded;
 use crate::pass::settle_all;
-use crate::slots::do_slots;
+use crate::slots::{Plan, Timetable, do_frame, do_slot_alone};
 use crate::steps::{Step, steps_of};
 use crate::taken::register_of;
 use design_core::{PortBit, PortValues};
 use emu_io::{List, NoMemory};
-use emu_machine::{Results, Slot};
-use id_arena::{ChipId, ChipNetId, GroupId, Key, RegId};
+use emu_machine::{Action, Results};
+use id_arena::{ChipId, ChipNetId, GroupId, Key, RegId, Wire};
 use std::alloc::Global;
 use std::marker::Model;
 
-/// The emulator's machine, opened on results.
+/// The emulator's machine, opened on results and on the wires of a board.
 ///
-/// A clause sees the results and the tables of the state.
+/// A clause sees the results, the wires and the tables of the state.
 #[derive(Drop)]
 pub struct Machine<'a> {
     results: &'a Results,
+    wires: &'a [Wire],
     /// By chip and net what a register holds there.
     held: Vec<List<bool>>,
     /// By chip and net what the net shows.
     shown: Vec<List<bool>>,
+    /// By wire the value that it carries.
+    carried: Vec<bool>,
     /// For each chip the steps of its gates, in an order in which inputs come first.
     steps: Vec<List<Step>>,
+    /// For each frame and slot the actions whose last slot it is.
+    endings: Vec<List<List<Action>>>,
     /// By net of the design the outside value of an input.
     outside: Vec<bool>,
 }
 
 impl<'a> Model for Machine<'a> {
-    ghost use Rattle.cycle_sim.specs.Tables.{IsMachine, Running};
+    ghost use Rattle.cycle_sim.specs.Tables.{IsMachine, Running, tables};
 
     ghost Value = { Running };
 
     ghost view = { λ m. record {
       results = m.results.now;
-      tables = record { held = m.held.items; outside = m.outside.items };
+      wires = m.wires.now;
+      tables = tables m.held.items m.outside.items m.carried.items;
     } };
 
-    ghost invariant = { λ m. IsMachine m.results.now (record { held = m.held.items; outside = m.outside.items }) m.shown.items m.steps.items };
+    ghost invariant = { λ m. IsMachine m.results.now m.wires.now (tables m.held.items m.outside.items m.carried.items) m.shown.items m.steps.items m.endings.items };
 }
 
 impl<'a> Machine<'a> {
-    /// The machine that runs these results, in the state that it is loaded with.
+    /// The machine that runs these results over these wires, in the state that it is loaded with. Each
+    /// wire carries 0.
+    #[tactic(auto, using(crate::proofs::SlotSteps::carries_nothing))]
     pub fn open(
         alloc: Global,
         results: &'a Results,
+        wires: &'a [Wire],
         loaded: Loaded,
     ) -> Result<Machine<'a>, NoMemory>
-        requires runs { CanRun results.now (length loaded.outside) }
+        requires runs { CanRun results.now wires.now (length loaded.outside) }
         requires loaded { HaveSizes results.now loaded.held }
-        ensures { IfOk result (λ m. m ≡ record { results = results.now; tables = loaded }) }
+        ensures results { IfOk result (λ m. m.results ≡ results.now) }
+        ensures wires { IfOk result (λ m. m.wires ≡ wires.now) }
+        ensures inputs { IfOk result (λ m. length m.tables.outside ≡ length loaded.outside) }
+        ensures state { IfOk result (λ m. state m ≡ state_of loaded) }
     {
         let steps = all_steps(alloc, results)?;
+        let endings = all_endings(alloc, results, wires)?;
+        let carried = vec![in alloc; false; wires.len()]?;
         let mut shown = zeros(alloc, results)?;
         let (held, outside) = loaded.into_tables();
         settle_all(results, steps.as_slice(), held.as_slice(), &mut shown);
         Ok(Machine {
             results,
+            wires,
             held,
             shown,
+            carried,
             steps,
+            endings,
             outside,
         })
     }
 
     /// Puts these values outside. Where an input is given two values, the later one counts.
+    #[tactic(auto, using(crate::proofs::SlotSteps::presented))]
     pub fn present(&mut self, values: &PortValues)
         requires { All (λ b. b.net.place < length self.old.tables.outside) values.now }
         ensures results { self.new.results ≡ self.old.results }
+        ensures wires { self.new.wires ≡ self.old.wires }
         ensures inputs { length self.new.tables.outside ≡ length self.old.tables.outside }
         ensures state { state self.new ≡ present values.now (state self.old) }
     {
         put_values(values.as_slice(), &mut self.outside);
     }
 
-    /// Does one slot of a group's frame.
+    /// Does one slot of a group's frame. What was sent in an earlier slot of the frame, and is to arrive in
+    /// this one, is taken from its wire.
     pub fn slot(&mut self, group: GroupId, t: u32)
         requires group { group.place < length self.old.results.schedule.frames }
         requires slot { t < length (frame_slots self.old.results group.place) }
         ensures results { self.new.results ≡ self.old.results }
+        ensures wires { self.new.wires ≡ self.old.wires }
         ensures inputs { length self.new.tables.outside ≡ length self.old.tables.outside }
-        ensures state { (wires : List Wire)
-            → state self.new ≡ slot_step self.old.results.net wires (slot_actions self.old.results group.place t) (state self.old) }
+        ensures state { state self.new ≡ slot_step self.old.results.net self.old.wires (frame_slots self.old.results group.place) t (state self.old) }
     {
-        self.stands();
-        let results = self.results;
-        self.do_slots(slot_alone(results, group, t as usize));
+        let plan = plan_of(self.results, self.wires, self.steps.as_slice());
+        let frame = timetable_of(self.results, self.endings.as_slice(), group);
+        do_slot_alone(
+            plan,
+            frame,
+            t as usize,
+            self.outside.as_slice(),
+            &mut self.held,
+            &mut self.carried,
+            &mut self.shown,
+        );
     }
 
     /// Does the frame of an event: its values are put outside, and all slots of its group's frame follow.
@@ -103,14 +131,21 @@ impl<'a> Machine<'a> {
         requires group { group.place < length self.old.results.schedule.frames }
         requires values { All (λ b. b.net.place < length self.old.tables.outside) values.now }
         ensures results { self.new.results ≡ self.old.results }
+        ensures wires { self.new.wires ≡ self.old.wires }
         ensures inputs { length self.new.tables.outside ≡ length self.old.tables.outside }
-        ensures state { (wires : List Wire)
-            → state self.new ≡ after_frame self.old.results wires (record { group = group; values = values.now }) (state self.old) }
+        ensures state { state self.new ≡ after_frame self.old.results self.old.wires (record { group = group; values = values.now }) (state self.old) }
     {
-        self.stands();
-        let results = self.results;
         self.present(values);
-        self.do_slots(slots_of(results, group));
+        let plan = plan_of(self.results, self.wires, self.steps.as_slice());
+        let frame = timetable_of(self.results, self.endings.as_slice(), group);
+        do_frame(
+            plan,
+            frame,
+            self.outside.as_slice(),
+            &mut self.held,
+            &mut self.carried,
+            &mut self.shown,
+        );
     }
 
     /// The value of a net.
@@ -132,29 +167,11 @@ impl<'a> Machine<'a> {
         value_at(self.held.as_slice(), chip, q)
     }
 
-    /// What holds of every machine, for its callers: it can run its results.
+    /// What holds of every machine, for its callers: it can run its results over its wires.
     pub fn stands(&self)
-        ensures { CanRun self.now.results (length self.now.tables.outside) }
+        ensures { CanRun self.now.results self.now.wires (length self.now.tables.outside) }
     {
         let _ = &self.results;
-    }
-
-    /// Does some slots, one after the other.
-    fn do_slots(&mut self, slots: &[Slot])
-        requires { SlotsStand self.old.results (length self.old.tables.outside) slots.now }
-        ensures results { self.new.results ≡ self.old.results }
-        ensures inputs { self.new.tables.outside ≡ self.old.tables.outside }
-        ensures state { (wires : List Wire)
-            → state self.new ≡ after_slots self.old.results.net wires slots.now (state self.old) }
-    {
-        do_slots(
-            self.results,
-            self.steps.as_slice(),
-            self.outside.as_slice(),
-            slots,
-            &mut self.held,
-            &mut self.shown,
-        );
     }
 }
 
@@ -167,26 +184,38 @@ fn value_at(table: &[List<bool>], chip: ChipId, net: ChipNetId) -> bool
     *table[chip.place() as usize].get(net.place() as u64)
 }
 
-/// The slots of a group's frame.
-fn slots_of(results: &Results, group: GroupId) -> &[Slot]
-    requires { group.place < length results.now.schedule.frames }
-    ensures { result.now ≡ frame_slots results.now group.place }
+/// What a slot is done by.
+fn plan_of<'a>(results: &'a Results, wires: &'a [Wire], steps: &'a [List<Step>]) -> Plan<'a>
+    ensures results { result.results.now ≡ results.now }
+    ensures wires { result.wires.now ≡ wires.now }
+    ensures steps { result.steps.now ≡ steps.now }
 {
-    results
+    Plan {
+        results,
+        wires,
+        steps,
+    }
+}
+
+/// The slots of a group's frame, and what ends in each.
+fn timetable_of<'a>(
+    results: &'a Results,
+    endings: &'a [List<List<Action>>],
+    group: GroupId,
+) -> Timetable<'a>
+    requires there { group.place < length results.now.schedule.frames }
+    requires count { length endings.now ≡ length results.now.schedule.frames }
+    ensures slots { result.slots.now ≡ frame_slots results.now group.place }
+    ensures endings { result.endings.now ≡ get_or endings.now group.place [] }
+{
+    let slots = results
         .schedule
         .frames
         .get(group.place() as u64)
         .slots
-        .as_slice()
-}
-
-/// One slot of a group's frame, alone.
-fn slot_alone(results: &Results, group: GroupId, t: usize) -> &[Slot]
-    requires group { group.place < length results.now.schedule.frames }
-    requires slot { t < length (frame_slots results.now group.place) }
-    ensures { result.now ≡ record { actions = slot_actions results.now group.place t } ∷ [] }
-{
-    &slots_of(results, group)[t..=t]
+        .as_slice();
+    let endings = endings[group.place() as usize].as_slice();
+    Timetable { slots, endings }
 }
 
 /// The steps of the gates of each chip.
@@ -213,6 +242,7 @@ fn zeros(alloc: Global, results: &Results) -> Result<Vec<List<bool>>, NoMemory>
 }
 
 /// Puts values in the place of those that stand there, one after the other.
+#[tactic(auto, using(crate::proofs::SlotSteps::one_put))]
 fn put_values(values: &[PortBit], table: &mut [bool])
     requires { All (λ b. b.net.place < length table.old) values.now }
     ensures size { length table.new ≡ length table.old }

@@ -37,6 +37,7 @@ fn gate_count(chip: &Chip) -> u32
 }
 
 /// For each net the gate that drives it.
+#[tactic(auto, using(crate::proofs::Drivers::no_drivers))]
 fn drivers_of(alloc: Global, chip: &Chip) -> Result<Vec<Option<u32>>, NoMemory>
     requires { ChipStands chip.now }
     ensures { IfOk result (λ drivers. AreDrivers chip.now (length chip.now.gates) drivers.items) }

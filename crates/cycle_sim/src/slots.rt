@@ -1,117 +1,218 @@
 //! Slots, one after the other: nets get their values only where something reads them.
 
-ghost use Rattle.std.specs.Prelude.{◌≡◌, ◌||◌, ℕ, [], true, false, Some, List, All, length, slice_get};
+ghost use Rattle.std.specs.Prelude.{◌≡◌, ◌<◌, ◌||◌, ◌&&◌, ℕ, [], true, false, Some, get_or, length, slice_get};
 ghost use Rattle.std.specs.List.{list_all};
-ghost use Rattle.id_arena.specs.declared.wire.Wire.{Wire};
 ghost use Rattle.emu_machine.specs.declared.netlist.Chip.{Chip};
-ghost use Rattle.emu_machine.specs.State.{after_slots, slot_step};
-ghost use Rattle.cycle_sim.specs.Standing.{ActionStands, ChipStands, SlotsStand};
-ghost use Rattle.cycle_sim.specs.Tables.{AllShown, AllStepped, HaveSizes, IsMachine, IsUnderWay, state_of};
-ghost use Rattle.cycle_sim.specs.Takes.{takes_input};
+ghost use Rattle.emu_machine.specs.State.{actions_of, slot_step, state_at};
+ghost use Rattle.cycle_sim.specs.Standing.{ChipStands, SlotsStand};
+ghost use Rattle.cycle_sim.specs.Tables.{AllShown, AllStepped, AreEndings, HaveSizes, IsFresh, IsUnderWay, state_of, tables};
+ghost use Rattle.cycle_sim.specs.Takes.{is_direct, sends_nothing, takes_no_net};
 
 use crate::pass::settle_all;
+use crate::sent::send_all;
 use crate::steps::Step;
 use crate::taken::take_all;
 use emu_io::List;
 use emu_machine::{Action, Results, Slot};
+use id_arena::{Key, Wire, WireId};
 
-/// Does some slots, and then gives the nets of all chips their values.
+/// What slots are done by: the results, the wires, and the steps of each chip's gates.
+#[derive(Clone, Copy, Drop)]
+pub(crate) struct Plan<'a> {
+    pub(crate) results: &'a Results,
+    pub(crate) wires: &'a [Wire],
+    pub(crate) steps: &'a [List<Step>],
+}
+
+/// The slots of a frame, and for each of them the actions that end in it.
+#[derive(Clone, Copy, Drop)]
+pub(crate) struct Timetable<'a> {
+    pub(crate) slots: &'a [Slot],
+    pub(crate) endings: &'a [List<Action>],
+}
+
+/// Does the slots of a frame, and then gives the nets of all chips their values.
 ///
 /// Slots whose actions read no net follow one another without a pass over the gates, so a frame that
 /// takes outside values alone has one pass, however many slots it has.
-pub(crate) fn do_slots(
-    results: &Results,
-    steps: &[List<Step>],
+#[tactic(auto, using(crate::proofs::UnderWay::settled_at_last))]
+pub(crate) fn do_frame(
+    plan: Plan<'_>,
+    frame: Timetable<'_>,
     outside: &[bool],
-    slots: &[Slot],
     held: &mut [List<bool>],
+    carried: &mut [bool],
     shown: &mut [List<bool>],
 )
-    requires slots { SlotsStand results.now (length outside.now) slots.now }
-    requires machine { IsMachine results.now (record { held = held.old; outside = outside.now }) shown.old steps.now }
-    ensures machine { IsMachine results.now (record { held = held.new; outside = outside.now }) shown.new steps.now }
-    ensures state { (wires : List Wire) → state_of (record { held = held.new; outside = outside.now })
-        ≡ after_slots results.now.net wires slots.now (state_of (record { held = held.old; outside = outside.now })) }
+    requires slots { SlotsStand plan.results.now plan.wires.now (length outside.now) frame.slots.now }
+    requires endings { AreEndings plan.wires.now frame.slots.now frame.endings.now }
+    requires machine { IsFresh plan.results.now plan.wires.now (tables held.old outside.now carried.old) shown.old plan.steps.now }
+    ensures machine { IsFresh plan.entry.results.now plan.entry.wires.now (tables held.new outside.now carried.new) shown.new plan.entry.steps.now }
+    ensures state { state_of (tables held.new outside.now carried.new)
+        ≡ state_at plan.entry.results.now.net plan.entry.wires.now frame.entry.slots.now (state_of (tables held.old outside.now carried.old)) (length frame.entry.slots.now) }
 {
     let mut fresh = true;
-    'slots: for slot in slots {
-        let actions = slot.actions.as_slice();
-        fresh = do_slot(results, steps, outside, actions, fresh, held, shown);
+    'slots: for t in 0..frame.slots.len() {
+        fresh = do_slot(plan, frame, t, outside, fresh, held, carried, shown);
     }
-    refresh(results, steps, fresh, held, shown);
+    refresh(plan, fresh, held, shown);
 }
 
-/// Does the actions of a slot, and answers whether the nets still show what comes to them. Where they
-/// did not and an action reads one, all get their values first.
-fn do_slot(
-    results: &Results,
-    steps: &[List<Step>],
+/// Does one slot of a frame, and then gives the nets of all chips their values.
+#[tactic(auto, using(crate::proofs::UnderWay::settled_at_last))]
+pub(crate) fn do_slot_alone(
+    plan: Plan<'_>,
+    frame: Timetable<'_>,
+    t: usize,
     outside: &[bool],
-    actions: &[Action],
+    held: &mut [List<bool>],
+    carried: &mut [bool],
+    shown: &mut [List<bool>],
+)
+    requires there { t < length frame.slots.now }
+    requires slots { SlotsStand plan.results.now plan.wires.now (length outside.now) frame.slots.now }
+    requires endings { AreEndings plan.wires.now frame.slots.now frame.endings.now }
+    requires machine { IsFresh plan.results.now plan.wires.now (tables held.old outside.now carried.old) shown.old plan.steps.now }
+    ensures machine { IsFresh plan.entry.results.now plan.entry.wires.now (tables held.new outside.now carried.new) shown.new plan.entry.steps.now }
+    ensures state { state_of (tables held.new outside.now carried.new)
+        ≡ slot_step plan.entry.results.now.net plan.entry.wires.now frame.entry.slots.now t (state_of (tables held.old outside.now carried.old)) }
+{
+    let fresh = do_slot(plan, frame, t, outside, true, held, carried, shown);
+    refresh(plan, fresh, held, shown);
+}
+
+/// Does a slot of a frame, and answers whether the nets still show what comes to them. Where they did not
+/// and an action reads one, all get their values first.
+///
+/// Registers take from the actions that end in the slot, what wires carry from before it among it; then
+/// the actions that begin in it put new values on their wires.
+fn do_slot(
+    plan: Plan<'_>,
+    frame: Timetable<'_>,
+    t: usize,
+    outside: &[bool],
     fresh: bool,
     held: &mut [List<bool>],
+    carried: &mut [bool],
     shown: &mut [List<bool>],
 ) -> bool
-    requires actions { All (ActionStands results.now (length outside.now)) actions.now }
-    requires before { IsUnderWay results.now (record { held = held.old; outside = outside.now }) shown.old steps.now fresh }
-    ensures after { IsUnderWay results.now (record { held = held.new; outside = outside.now }) shown.new steps.now result }
-    ensures state { (wires : List Wire) → state_of (record { held = held.new; outside = outside.now })
-        ≡ slot_step results.now.net wires actions.now (state_of (record { held = held.old; outside = outside.now })) }
+    requires there { t < length frame.slots.now }
+    requires slots { SlotsStand plan.results.now plan.wires.now (length outside.now) frame.slots.now }
+    requires endings { AreEndings plan.wires.now frame.slots.now frame.endings.now }
+    requires before { IsUnderWay plan.results.now plan.wires.now (tables held.old outside.now carried.old) shown.old plan.steps.now fresh }
+    ensures after { IsUnderWay plan.entry.results.now plan.entry.wires.now (tables held.new outside.now carried.new) shown.new plan.entry.steps.now result }
+    ensures state { state_of (tables held.new outside.now carried.new)
+        ≡ slot_step plan.entry.results.now.net plan.entry.wires.now frame.entry.slots.now t (state_of (tables held.old outside.now carried.old)) }
 {
-    refresh(results, steps, are_served(fresh, actions), held, shown);
-    take_all(results, shown, outside, actions, held);
-    are_still_fresh(fresh, actions)
+    let starting = starting_in(frame, t);
+    let ending = ending_in(frame, t);
+    let served = are_served(plan.wires, starting, ending, fresh);
+    refresh(plan, served, held, shown);
+    take_all(
+        plan.results,
+        plan.wires,
+        shown,
+        outside,
+        carried,
+        ending,
+        held,
+    );
+    send_all(plan.wires, shown, starting, carried);
+    are_still_fresh(fresh, ending)
+}
+
+/// The actions of a slot.
+fn starting_in<'a>(frame: Timetable<'a>, t: usize) -> &'a [Action]
+    requires { t < length frame.slots.now }
+    ensures { result.now ≡ actions_of frame.entry.slots.now t }
+{
+    frame.slots[t].actions.as_slice()
+}
+
+/// The actions that end in a slot.
+fn ending_in<'a>(frame: Timetable<'a>, t: usize) -> &'a [Action]
+    requires { t < length frame.endings.now }
+    ensures { result.now ≡ get_or frame.entry.endings.now t [] }
+{
+    frame.endings[t].as_slice()
 }
 
 /// Gives the nets of all chips the values that come to them, unless this is spared.
-fn refresh(
-    results: &Results,
-    steps: &[List<Step>],
-    spared: bool,
-    held: &[List<bool>],
-    shown: &mut [List<bool>],
-)
-    requires chips { (c : ℕ) (chip : Chip) → slice_get results.now.net c ≡ Some chip → ChipStands chip }
-    requires steps { AllStepped results.now steps.now }
-    requires held { HaveSizes results.now held.now }
-    requires shown { HaveSizes results.now shown.old }
+fn refresh(plan: Plan<'_>, spared: bool, held: &[List<bool>], shown: &mut [List<bool>])
+    requires chips { (c : ℕ) (chip : Chip) → slice_get plan.results.now.net c ≡ Some chip → ChipStands chip }
+    requires steps { AllStepped plan.results.now plan.steps.now }
+    requires held { HaveSizes plan.results.now held.now }
+    requires shown { HaveSizes plan.results.now shown.old }
     ensures spared { spared ≡ true → shown.new ≡ shown.old }
-    ensures settled { spared ≡ false → AllShown results.now held.now shown.new }
+    ensures settled { spared ≡ false → AllShown plan.entry.results.now held.now shown.new }
 {
     if !spared {
-        settle_all(results, steps, held, shown);
+        settle_all(plan.results, plan.steps, held, shown);
     }
 }
 
-/// Whether actions find what they read: the nets are fresh, or no action reads one.
-fn are_served(fresh: bool, actions: &[Action]) -> bool
-    ensures { result ≡ (fresh || list_all takes_input actions.now) }
+/// Whether the actions of a slot find what they read: the nets are fresh, or no action reads one.
+fn are_served(wires: &[Wire], starting: &[Action], ending: &[Action], fresh: bool) -> bool
+    ensures { result ≡ (fresh || (list_all (takes_no_net wires.now) ending.now && list_all sends_nothing starting.now)) }
 {
-    fresh || take_inputs(actions)
+    fresh || (take_no_nets(wires, ending) && send_nothing(starting))
 }
 
-/// Whether all actions take outside values.
-fn take_inputs(actions: &[Action]) -> bool
-    ensures { result ≡ list_all takes_input actions.now }
+/// Whether what actions give in their last slot hangs on no net.
+fn take_no_nets(wires: &[Wire], actions: &[Action]) -> bool
+    ensures { result ≡ list_all (takes_no_net wires.now) actions.now }
 {
-    actions.iter().all(takes_input)
+    'actions: for action in actions {
+        if !takes_no_net(wires, *action) {
+            return false;
+        }
+    }
+    true
 }
 
-/// Whether an action takes an outside value, and so reads no net.
-fn takes_input(action: &Action) -> bool
-    ensures { result ≡ takes_input action.now }
+/// Whether what an action gives in its last slot hangs on no net that the slot starts with.
+fn takes_no_net(wires: &[Wire], action: Action) -> bool
+    ensures { result ≡ takes_no_net wires.now action }
 {
     match action {
         Action::Input { .. } => true,
-        Action::Load { .. } | Action::Send { .. } | Action::Write { .. } | Action::Read { .. } => {
-            false
+        Action::Send { wire, .. } => !is_direct(wires, wire),
+        Action::Load { .. } | Action::Write { .. } | Action::Read { .. } => false,
+    }
+}
+
+/// Whether a wire has a latency of one slot.
+pub(crate) fn is_direct(wires: &[Wire], wire: WireId) -> bool
+    ensures { result ≡ is_direct wires.now wire.place }
+{
+    match wires.get(wire.place() as usize) {
+        Some(ends) => ends.latency == 1,
+        None => false,
+    }
+}
+
+/// Whether no action puts a value on a wire.
+fn send_nothing(actions: &[Action]) -> bool
+    ensures { result ≡ list_all sends_nothing actions.now }
+{
+    actions.iter().all(sends_nothing)
+}
+
+/// Whether an action puts nothing on a wire.
+fn sends_nothing(action: &Action) -> bool
+    ensures { result ≡ sends_nothing action.now }
+{
+    match action {
+        Action::Send { .. } => false,
+        Action::Input { .. } | Action::Load { .. } | Action::Write { .. } | Action::Read { .. } => {
+            true
         }
     }
 }
 
-/// Whether nets that were fresh stay so, since there is no action.
-fn are_still_fresh(fresh: bool, actions: &[Action]) -> bool
-    ensures { result ≡ true → (fresh ≡ true) × (actions.now ≡ []) }
+/// Whether nets that were fresh stay so, since no register takes anything.
+fn are_still_fresh(fresh: bool, ending: &[Action]) -> bool
+    ensures { result ≡ true → (fresh ≡ true) × (ending.now ≡ []) }
 {
-    fresh && actions.is_empty()
+    fresh && ending.is_empty()
 }

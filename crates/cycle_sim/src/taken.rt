@@ -1,9 +1,9 @@
-//! What the actions of a slot give to their registers.
+//! What the actions that end in a slot give to their registers.
 
-ghost use Rattle.std.specs.Prelude.{◌≡◌, ◌<◌, false, Some, All, [], length, get_or, slice_get, slice_set};
+ghost use Rattle.std.specs.Prelude.{◌≡◌, ◌<◌, ◌==◌, false, if◌then◌else◌, Some, All, [], length, get_or, slice_get, slice_set};
 ghost use Rattle.emu_machine.specs.Netlist.{chip_at};
 ghost use Rattle.emu_machine.specs.State.{loaded_value};
-ghost use Rattle.cycle_sim.specs.Standing.{ActionStands, IsRegister, RegisterStands};
+ghost use Rattle.cycle_sim.specs.Standing.{CanTake, IsRegister, RegisterStands};
 ghost use Rattle.cycle_sim.specs.Tables.{HaveSizes, IsReady};
 ghost use Rattle.cycle_sim.specs.Takes.{HasTaken, HasTakenOne};
 ghost use Rattle.cycle_sim.specs.Values.{value_in};
@@ -11,52 +11,61 @@ ghost use Rattle.cycle_sim.specs.Values.{value_in};
 use crate::gates::value_of;
 use emu_io::List;
 use emu_machine::{Action, EmuRegister, Results};
-use id_arena::{ChipId, ChipNetId, Key, NetId, RegId};
+use id_arena::{ChipId, ChipNetId, Key, RegId, Wire, WireId};
 
-/// Gives each target of some actions its value. All values are read from the nets as they were shown
-/// before, so no action sees what another one gives. The actions are done from the last on, so that of
+/// Gives each register that some actions end in its value. All values are read from the nets as they were
+/// shown, and the wires as they carried, before, so no action sees what another one gives. The actions are done from the last on, so that of
 /// several for one register the first counts.
+#[tactic(auto, using(crate::proofs::Taking::none_taken))]
 pub(crate) fn take_all(
     results: &Results,
+    wires: &[Wire],
     shown: &[List<bool>],
     outside: &[bool],
+    carried: &[bool],
     actions: &[Action],
     held: &mut [List<bool>],
 )
-    requires ready { IsReady results.now (length outside.now) shown.now }
-    requires actions { All (ActionStands results.now (length outside.now)) actions.now }
+    requires ready { IsReady results.now wires.now (length outside.now) shown.now }
+    requires actions { All (CanTake results.now wires.now (length outside.now)) actions.now }
+    requires carried { length carried.now ≡ length wires.now }
     requires held { HaveSizes results.now held.old }
     ensures sizes { HaveSizes results.now held.new }
-    ensures taken { HasTaken results.now shown.now outside.now actions.now held.old held.new }
+    ensures taken { HasTaken results.now wires.now shown.now outside.now carried.now actions.now held.old held.new }
 {
     let mut left = actions.len();
     'actions: while left > 0 {
         left -= 1;
-        take(results, shown, outside, action_at(actions, left), held);
+        let action = action_at(actions, left);
+        take(results, wires, shown, outside, carried, action, held);
     }
 }
 
 /// The action at a place.
-fn action_at(actions: &[Action], place: usize) -> &Action
+pub(crate) fn action_at(actions: &[Action], place: usize) -> &Action
     requires { place < length actions.now }
     ensures { slice_get actions.now place ≡ Some result.now }
 {
     &actions[place]
 }
 
-/// Gives the target of an action its value.
+/// Gives the register of an action its value.
+#[tactic(auto, using(crate::proofs::Taking::put_sizes))]
 fn take(
     results: &Results,
+    wires: &[Wire],
     shown: &[List<bool>],
     outside: &[bool],
+    carried: &[bool],
     action: &Action,
     held: &mut [List<bool>],
 )
-    requires ready { IsReady results.now (length outside.now) shown.now }
-    requires action { ActionStands results.now (length outside.now) action.now }
+    requires ready { IsReady results.now wires.now (length outside.now) shown.now }
+    requires action { CanTake results.now wires.now (length outside.now) action.now }
+    requires carried { length carried.now ≡ length wires.now }
     requires held { HaveSizes results.now held.old }
     ensures sizes { HaveSizes results.now held.new }
-    ensures taken { HasTakenOne results.now shown.now outside.now action.now held.old held.new }
+    ensures taken { HasTakenOne results.now wires.now shown.now outside.now carried.now action.now held.old held.new }
 {
     match *action {
         Action::Input {
@@ -65,7 +74,7 @@ fn take(
             net,
         } => {
             let register = register_of(results, chip, register);
-            put(held, chip, register.q, outside_value(outside, net));
+            put(held, chip, register.q, bit_at(outside, net.place()));
         }
         Action::Load { chip, register } => {
             let register = register_of(results, chip, register);
@@ -74,20 +83,59 @@ fn take(
                 Some(value) => put(held, chip, register.q, value),
             }
         }
-        Action::Send { .. } | Action::Write { .. } | Action::Read { .. } => unreachable!(),
+        Action::Send {
+            wire,
+            net,
+            register,
+        } => {
+            let ends = ends_of(wires, wire);
+            let register = register_of(results, ends.to, register);
+            let value = arriving(ends, wire, net, shown, carried);
+            put(held, ends.to, register.q, value);
+        }
+        Action::Write { .. } | Action::Read { .. } => unreachable!(),
     }
 }
 
-/// The outside value of an input.
-fn outside_value(outside: &[bool], net: NetId) -> bool
-    requires { net.place < length outside.now }
-    ensures { result ≡ get_or outside.now net.place false }
+/// The value at a place of a table.
+fn bit_at(table: &[bool], place: u32) -> bool
+    requires { place < length table.now }
+    ensures { result ≡ get_or table.now place false }
 {
-    outside[net.place() as usize]
+    table[place as usize]
+}
+
+/// A wire's ends and latency.
+pub(crate) fn ends_of(wires: &[Wire], wire: WireId) -> Wire
+    requires { wire.place < length wires.now }
+    ensures { slice_get wires.now wire.place ≡ Some result }
+{
+    wires[wire.place() as usize]
+}
+
+/// What arrives at the far end of a wire: over a latency of one slot what the net shows, and over a longer
+/// one what the wire has carried.
+fn arriving(
+    ends: Wire,
+    wire: WireId,
+    net: ChipNetId,
+    shown: &[List<bool>],
+    carried: &[bool],
+) -> bool
+    requires chip { ends.from.place < length shown.now }
+    requires net { net.place < length (get_or shown.now ends.from.place []) }
+    requires wire { wire.place < length carried.now }
+    ensures { result ≡ (if ends.latency == 1 then value_in (get_or shown.now ends.from.place []) net else get_or carried.now wire.place false) }
+{
+    if ends.latency == 1 {
+        value_of(table_of(shown, ends.from), net)
+    } else {
+        bit_at(carried, wire.place())
+    }
 }
 
 /// What the nets of a chip show.
-fn table_of(shown: &[List<bool>], chip: ChipId) -> &[bool]
+pub(crate) fn table_of(shown: &[List<bool>], chip: ChipId) -> &[bool]
     requires { chip.place < length shown.now }
     ensures { result.now ≡ get_or shown.now chip.place [] }
 {

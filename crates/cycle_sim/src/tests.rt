@@ -1,6 +1,7 @@
 //! The machine on small results, slot by slot, with values that were worked out by hand.
 ghost use Rattle.std.specs.Prelude.{◌≡◌, ◌<◌, ◌∷◌, [], IfOk, Some, None, codes, length, replicate, false};
 ghost use Rattle.cycle_sim.specs.Example.{example_chip, example_results, example_schedule, inverter};
+ghost use Rattle.cycle_sim.specs.Relay.{relay_chip, relay_results, relay_schedule, relay_wires};
 ghost use Rattle.cycle_sim.specs.Standing.{CanRun};
 ghost use Rattle.cycle_sim.specs.Tables.{HaveSizes};
 
@@ -9,7 +10,7 @@ use crate::machine::Machine;
 use design_core::{Op, PortBit, PortValues};
 use emu_io::{List, NoMemory, Text};
 use emu_machine::{Action, Chip, EmuGate, EmuRegister, Frame, Results, Schedule, Slot, StateMap};
-use id_arena::{ChipId, ChipNetId, GroupId, Key, NetId, RegId};
+use id_arena::{ChipId, ChipNetId, GroupId, Key, NetId, RegId, Wire, WireId};
 use std::alloc::Global;
 use std::test::Fail;
 
@@ -93,10 +94,11 @@ fn example_results(alloc: Global) -> Result<Results, NoMemory>
 // The machine can run them.
 fn example_runs(results: &Results)
     requires { results.now ≡ example_results }
-    ensures { CanRun results.now 3 }
+    ensures { CanRun results.now [] 3 }
 {}
 
 // All registers hold 0, and 0 stands outside of each of the three nets of the design.
+#[tactic(auto, using(crate::proofs::Examples::example_sizes))]
 fn zeros(alloc: Global) -> Result<Loaded, NoMemory>
     ensures sizes { IfOk result (λ t. HaveSizes example_results t.held) }
     ensures outside { IfOk result (λ t. length t.outside ≡ 3) }
@@ -132,7 +134,7 @@ fn registers(machine: &Machine<'_>) -> [bool; 2]
 fn a_slot_reads_what_was_before(rt: HostRuntime) -> Result<(), Fail> {
     let results = example_results(rt.alloc())?;
     example_runs(&results);
-    let mut machine = Machine::open(rt.alloc(), &results, zeros(rt.alloc())?)?;
+    let mut machine = Machine::open(rt.alloc(), &results, &[], zeros(rt.alloc())?)?;
     let chip = ChipId::of(0);
     assert!(rt; machine.net(chip, ChipNetId::of(1)));
     assert!(rt; !machine.net(chip, ChipNetId::of(2)));
@@ -154,9 +156,174 @@ fn a_slot_reads_what_was_before(rt: HostRuntime) -> Result<(), Fail> {
 fn a_load_reads_what_the_slot_before_gave(rt: HostRuntime) -> Result<(), Fail> {
     let results = example_results(rt.alloc())?;
     example_runs(&results);
-    let mut machine = Machine::open(rt.alloc(), &results, zeros(rt.alloc())?)?;
+    let mut machine = Machine::open(rt.alloc(), &results, &[], zeros(rt.alloc())?)?;
     assert!(rt; registers(&machine) == [false, false]);
     machine.frame(GroupId::of(0), &one_bit(rt.alloc(), true)?);
     assert!(rt; registers(&machine) == [true, true]);
+    Ok(())
+}
+
+fn relay_chip(alloc: Global) -> Result<Chip, NoMemory>
+    ensures { IfOk result (λ chip. chip ≡ relay_chip) }
+{
+    let mut gates = List::new(alloc);
+    gates.push(inverter(alloc, 1, 0)?)?;
+    let mut registers = List::new(alloc);
+    registers.push(EmuRegister {
+        q: ChipNetId::of(0),
+        d: None,
+        enable: None,
+    })?;
+    Ok(Chip {
+        nets: 2,
+        gates,
+        registers,
+        memories: List::new(alloc),
+    })
+}
+
+fn slot_of(alloc: Global, action: Action) -> Result<Slot, NoMemory>
+    ensures { IfOk result (λ slot. slot ≡ record { actions = action ∷ [] }) }
+{
+    let mut actions = List::new(alloc);
+    actions.push(action)?;
+    Ok(Slot { actions })
+}
+
+fn relay_schedule(alloc: Global) -> Result<Schedule, NoMemory>
+    ensures { IfOk result (λ schedule. schedule ≡ relay_schedule) }
+{
+    let input = Action::Input {
+        chip: ChipId::of(0),
+        register: RegId::of(0),
+        net: NetId::of(2),
+    };
+    let send = Action::Send {
+        wire: WireId::of(0),
+        net: ChipNetId::of(1),
+        register: RegId::of(0),
+    };
+    let mut slots = List::new(alloc);
+    slots.push(slot_of(alloc, input)?)?;
+    slots.push(slot_of(alloc, send)?)?;
+    slots.push(slot_of(alloc, input)?)?;
+    slots.push(Slot {
+        actions: List::new(alloc),
+    })?;
+    let group = Text::from_bytes(alloc, b"*")?;
+    let mut frames = List::new(alloc);
+    frames.push(Frame { group, slots })?;
+    Ok(Schedule { frames })
+}
+
+fn relay_results(alloc: Global) -> Result<Results, NoMemory>
+    ensures { IfOk result (λ results. results ≡ relay_results) }
+{
+    let mut net = List::new(alloc);
+    net.push(relay_chip(alloc)?)?;
+    net.push(relay_chip(alloc)?)?;
+    Ok(Results {
+        net,
+        schedule: relay_schedule(alloc)?,
+        map: StateMap {
+            chips: List::new(alloc),
+            outputs: List::new(alloc),
+        },
+    })
+}
+
+fn relay_wire(latency: u32) -> Wire
+    ensures { result ∷ [] ≡ relay_wires latency }
+{
+    Wire {
+        from: ChipId::of(0),
+        to: ChipId::of(1),
+        latency,
+    }
+}
+
+// The machine can run them over a wire of one slot, and over one of three.
+fn short_relay_runs(results: &Results, wires: &[Wire])
+    requires results { results.now ≡ relay_results }
+    requires wires { wires.now ≡ relay_wires 1 }
+    ensures { CanRun results.now wires.now 3 }
+{}
+
+fn long_relay_runs(results: &Results, wires: &[Wire])
+    requires results { results.now ≡ relay_results }
+    requires wires { wires.now ≡ relay_wires 3 }
+    ensures { CanRun results.now wires.now 3 }
+{}
+
+// All registers hold 0, and 0 stands outside of each of the three nets of the design.
+#[tactic(auto, using(crate::proofs::Examples::relay_sizes))]
+fn relay_zeros(alloc: Global) -> Result<Loaded, NoMemory>
+    ensures sizes { IfOk result (λ t. HaveSizes relay_results t.held) }
+    ensures outside { IfOk result (λ t. length t.outside ≡ 3) }
+{
+    let mut held = Vec::new(alloc);
+    held.push(List::from_vec(vec![in alloc; false; 2]?))?;
+    held.push(List::from_vec(vec![in alloc; false; 2]?))?;
+    let outside = vec![in alloc; false; 3]?;
+    Ok(Loaded::from_tables(held, outside))
+}
+
+// What the registers before and behind the wire hold.
+fn ends(machine: &Machine<'_>) -> [bool; 2]
+    requires { machine.now.results ≡ relay_results }
+{
+    let near = machine.register(ChipId::of(0), RegId::of(0));
+    let far = machine.register(ChipId::of(1), RegId::of(0));
+    [near, far]
+}
+
+// In slot 1 the inverter shows 1, and its register holds 0. In slot 2 the register takes 1, so that the
+// inverter shows 0. What was sent is there after slot 3, and not before.
+#[test]
+fn a_send_arrives_after_its_latency(rt: HostRuntime) -> Result<(), Fail> {
+    let results = relay_results(rt.alloc())?;
+    let wires = [relay_wire(3)];
+    long_relay_runs(&results, &wires);
+    let mut machine = Machine::open(rt.alloc(), &results, &wires, relay_zeros(rt.alloc())?)?;
+    machine.slot(GroupId::of(0), 0);
+    assert!(rt; ends(&machine) == [false, false]);
+    machine.slot(GroupId::of(0), 1);
+    assert!(rt; ends(&machine) == [false, false]);
+    machine.present(&one_bit(rt.alloc(), true)?);
+    machine.slot(GroupId::of(0), 2);
+    assert!(rt; ends(&machine) == [true, false]);
+    machine.slot(GroupId::of(0), 3);
+    assert!(rt; ends(&machine) == [true, true]);
+    Ok(())
+}
+
+#[test]
+fn a_frame_ends_with_all_sends_there(rt: HostRuntime) -> Result<(), Fail> {
+    let results = relay_results(rt.alloc())?;
+    let wires = [relay_wire(3)];
+    long_relay_runs(&results, &wires);
+    let mut machine = Machine::open(rt.alloc(), &results, &wires, relay_zeros(rt.alloc())?)?;
+    machine.frame(GroupId::of(0), &one_bit(rt.alloc(), false)?);
+    assert!(rt; ends(&machine) == [false, true]);
+    machine.frame(GroupId::of(0), &one_bit(rt.alloc(), true)?);
+    assert!(rt; ends(&machine) == [true, false]);
+    Ok(())
+}
+
+// Over a wire of one slot the register takes at once what the inverter shows.
+#[test]
+fn a_send_of_one_slot_arrives_at_once(rt: HostRuntime) -> Result<(), Fail> {
+    let results = relay_results(rt.alloc())?;
+    let wires = [relay_wire(1)];
+    short_relay_runs(&results, &wires);
+    let mut machine = Machine::open(rt.alloc(), &results, &wires, relay_zeros(rt.alloc())?)?;
+    machine.slot(GroupId::of(0), 0);
+    assert!(rt; ends(&machine) == [false, false]);
+    machine.slot(GroupId::of(0), 1);
+    assert!(rt; ends(&machine) == [false, true]);
+    machine.present(&one_bit(rt.alloc(), true)?);
+    machine.slot(GroupId::of(0), 2);
+    machine.slot(GroupId::of(0), 3);
+    assert!(rt; ends(&machine) == [true, true]);
     Ok(())
 }

@@ -178,3 +178,11 @@ module _ (inner ports : List Port) (name digits : List ℕ) (place : ℕ) (nets 
       let given : Some nets ≡ Some s.nets = sym own_nets ∙ ap (λ k. option_map (λ p. p.nets) (slice_get ports k)) place_is ∙ sets.nets in
       let nets_are : nets ≡ s.nets = cc in
       wrong (subst (λ ns. IsValue (length ns) digits) (sym nets_are) sets.value)
+
+-- one more text makes at most one more name
+pub few_more : (names : List (List ℕ)) (text : List ℕ) (k : ℕ) (after : List (List ℕ)) → after ≡ with_name names text → length names ≤ k → length after ≤ k + 1
+few_more names text k after is few = subst (λ (some : List (List ℕ)). length some ≤ k + 1) (sym is) (go (is_some (place_among names text)))
+  where
+    go : (b : Bool) → length (if b then names else names ++ text ∷ []) ≤ k + 1
+    go true = omega (arith, few)
+    go false = omega (arith, few, length-append names (text ∷ []))

@@ -29,6 +29,10 @@ module _ (r : Results) (wires : List Wire) where
   length-run x [] = refl
   length-run x (e ∷ es) = ap suc (length-run (after_frame r wires e x) es)
 
+-- an event is run over the same wires
+pub stepped : (r : Results) (now wires : List Wire) (event : Event) (m y : State) → now ≡ wires → y ≡ after_frame r now event m → y ≡ after_frame r wires event m
+stepped r now wires event m y same step = step ∙ ap (λ (some : List Wire). after_frame r some event m) same
+
 -- ## A run of one event more
 
 module _ (p : Parts) (r : Results) (wires : List Wire) (events : List Event) (x : State) where

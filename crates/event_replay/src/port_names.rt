@@ -1,13 +1,14 @@
 //! The input ports of a design, found by name.
 
-ghost use Rattle.std.specs.Prelude.{◌≡◌, ◌<◌, length, IfOk, IfSome, MatchOption};
+ghost use Rattle.std.specs.Prelude.{◌≡◌, ◌<◌, ◌≤◌, length, IfOk, IfSome, MatchOption};
+ghost use Rattle.id_arena.specs.Arena.{item_limit};
 ghost use Rattle.event_replay.specs.Settings.{Setting, Sets, port_named};
 ghost use Rattle.event_replay.specs.Values.{hex_number};
 
 use crate::values::is_value;
 use design_core::Port;
 use emu_io::NoMemory;
-use id_arena::{Names, NetId};
+use id_arena::{ArenaFault, Names, NetId};
 use std::alloc::Global;
 use std::marker::Model;
 
@@ -34,17 +35,19 @@ impl<'d> Model for PortNames<'d> {
 }
 
 impl<'d> PortNames<'d> {
-    /// Takes in the names of the ports.
+    /// Takes in the names of the ports, of which there are no more than there are numbers of names.
     pub(crate) fn new(alloc: Global, ports: &'d [Port]) -> Result<PortNames<'d>, NoMemory>
+        requires { length ports.now ≤ item_limit }
         ensures { IfOk result (λ names. names ≡ ports.now) }
     {
         let mut names = Names::new(alloc);
         let mut firsts = Vec::new(alloc);
         'ports: for place in 0..ports.len() {
             let known = names.len();
-            // A design has fewer ports than there are numbers of names.
-            let Ok(number) = names.intern(ports[place].name.bytes()) else {
-                return Err(NoMemory);
+            let number = match names.intern(ports[place].name.bytes()) {
+                Ok(number) => number,
+                Err(ArenaFault::NoMemory) => return Err(NoMemory),
+                Err(ArenaFault::Full) => unreachable!(),
             };
             if number == known {
                 firsts.push(place)?;

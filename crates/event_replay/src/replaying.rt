@@ -1,7 +1,6 @@
 //! Events on the machine of compiled results.
 
-ghost use Rattle.std.specs.Prelude.{◌≡◌, ◌<◌, ◌≤◌, ℕ, All, Contains, IfOk, List, length, map};
-ghost use Rattle.id_arena.specs.declared.wire.Wire.{Wire};
+ghost use Rattle.std.specs.Prelude.{◌≡◌, ◌<◌, ◌≤◌, ℕ, All, Contains, IfOk, length, map};
 ghost use Rattle.design_core.specs.declared.values.Event.{Event};
 ghost use Rattle.design_core.specs.Design.{net_count, port_bits};
 ghost use Rattle.emu_io.specs.Sink.{PutMeans};
@@ -40,8 +39,9 @@ pub fn replay_lines<O: Sink>(
     requires outputs { length results.now.map.outputs ≡ length (port_bits design.now.outputs) }
     requires spots { (spot : Spot) → Contains results.now.map.outputs spot → spot.net.place < (chip_at results.now.net spot.chip.place).nets }
     ensures results { machine.new.results ≡ machine.old.results }
+    ensures wires { machine.new.wires ≡ machine.old.wires }
     ensures inputs { length machine.new.tables.outside ≡ length machine.old.tables.outside }
-    ensures means { (wires : List Wire) → ReplayMeans design.now results.now wires events.now (state machine.old) (state machine.new) (O.written out.old) (O.written out.new) (O.faults out.old) (O.faults out.new) result }
+    ensures means { ReplayMeans design.now results.now machine.old.wires events.now (state machine.old) (state machine.new) (O.written out.old) (O.written out.new) (O.faults out.old) (O.faults out.new) result }
     ensures later { O.faults out.old ≤ O.faults out.new }
 {
     design.stands();
@@ -78,8 +78,9 @@ fn replay_line<O: Sink>(
     requires outputs { length results.now.map.outputs ≡ length (port_bits outputs.now) }
     requires spots { (spot : Spot) → Contains results.now.map.outputs spot → spot.net.place < (chip_at results.now.net spot.chip.place).nets }
     ensures results { machine.new.results ≡ machine.old.results }
+    ensures wires { machine.new.wires ≡ machine.old.wires }
     ensures inputs { length machine.new.tables.outside ≡ length machine.old.tables.outside }
-    ensures state { (wires : List Wire) → state machine.new ≡ after_frame results.now wires event.now (state machine.old) }
+    ensures state { state machine.new ≡ after_frame results.now machine.old.wires event.now (state machine.old) }
     ensures means { PutMeans (O.written out.old) (O.written out.new) (O.faults out.old) (O.faults out.new) (trace_line_of number outputs.now (spots_of results.now (state machine.new))) result }
     ensures later { O.faults out.old ≤ O.faults out.new }
 {

@@ -13,10 +13,10 @@ use Rattle.design_core.specs.Event.{Follow, IsHistory, HasOneHistory}
 use Rattle.emu_io.specs.Sink.{AppendsWhereTold}
 use Rattle.emu_machine.specs.State.{State, run_of}
 use Rattle.emu_machine.specs.Mapped.{IsLoaded}
-use Rattle.emu_machine.specs.Acceptance.{Case, A5, A9, Holds, IsAccepted}
+use Rattle.emu_machine.specs.Acceptance.{Case, A2, A5, A9, Holds, IsAccepted}
 use Rattle.emu_machine.specs.Headline.{EventsFit, event_values}
 use Rattle.emu_machine.specs.Law.{IsCase}
-use Rattle.emu_machine.specs.Plain.{IsPlainSchedule}
+use Rattle.emu_machine.specs.Plain.{IsPlainResults}
 use Rattle.cycle_sim.specs.Loading.{FreeAreZero}
 use Rattle.event_replay.specs.Runs.{outputs_of, settled_trace, machine_trace, BreaksOff}
 use Rattle.event_replay.specs.Traces.{trace_of}
@@ -34,13 +34,14 @@ TracesAgree =
     → IsLoaded c.design c.results v x
     → machine_trace c.design c.results (run_of c.results c.board.wires x events) ≡ settled_trace c.design vs
 
--- where rule A5 holds and every action is an `input`, all machines that are loaded from one valuation, with 0
--- in all that is free, have one trace, whatever the events
+-- where rules A2 and A5 hold and the results are plain, all machines that are loaded from one valuation, with 0
+-- in each free register and read net, have one trace, whatever the events
 abbrev pub LoadedTraceIsOne : Type 0
 LoadedTraceIsOne =
     (c : Case) (inside : ℕ → NodeId → Bool) (events : List Event) (v : Valuation) (x y : State)
     → IsCase c
-    → IsPlainSchedule c.results.schedule
+    → IsPlainResults c.results
+    → Holds c inside A2
     → Holds c inside A5
     → IsLoaded c.design c.results v x
     → FreeAreZero c.results x

@@ -8,8 +8,8 @@ pub fn traces_agree()
     ensures { TracesAgree }
 {}
 
-/// Where rule A5 holds and every action is an `input`, all machines that are loaded from one valuation,
-/// with 0 in all that is free, have one trace, whatever the events.
+/// Where rules A2 and A5 hold and the results are plain, all machines that are loaded from one valuation,
+/// with 0 in each free register and read net, have one trace, whatever the events.
 pub fn loaded_trace_is_one()
     ensures { LoadedTraceIsOne }
 {}

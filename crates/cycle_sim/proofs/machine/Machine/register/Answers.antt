@@ -6,4 +6,4 @@ pub value_at-requires-clause-net : goal.value_at-requires-clause-net
 value_at-requires-clause-net c =
     subst (λ (held : List (List Bool)). c.register_of.result.q.place < length (get_or held c.args.chip.place [])) (sym c.as_slice.ensures.value)
     (q_in c.self.inside.results.now c.args.chip.place c.args.register.place c.register_of.result c.register_of.ensures
-    _ c.self.invariant.runs c.self.inside.held.items c.self.invariant.held)
+    _ _ c.self.invariant.settled.equipped.runs c.self.inside.held.items c.self.invariant.settled.equipped.held)

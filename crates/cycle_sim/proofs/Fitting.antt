@@ -1,0 +1,112 @@
+-- What actions name, where they fit.
+use Rattle.std.proofs.Common.{◌≡◌, ◌<◌, ℕ, suc, ◌+◌, Bool, true, List, [], ◌∷◌, get_or, length, refl, sym, subst, arith}
+use Rattle.std.specs.Prelude.{Option, Some, None, slice_get, flat_map, map, All, Contains}
+use Rattle.std.specs.List.{enumerate_from, filter}
+use Rattle.std.proofs.lemmas.List.Elements.{All-nil, All-append, All-map, All-filter, Contains-get_or}
+use Rattle.id_arena.specs.declared.keys.ChipNetId.{ChipNetId}
+use Rattle.id_arena.specs.declared.keys.RegId.{RegId}
+use Rattle.id_arena.specs.declared.keys.WireId.{WireId}
+use Rattle.id_arena.specs.declared.wire.Wire.{Wire}
+use Rattle.emu_machine.specs.declared.netlist.EmuRegister.{EmuRegister}
+use Rattle.emu_machine.specs.declared.results.Results.{Results}
+use Rattle.emu_machine.specs.declared.schedule.Action.{Action}
+use Rattle.emu_machine.specs.declared.schedule.Action.TheVariants.{Input, Load, Send, Write, Read}
+use Rattle.emu_machine.specs.declared.schedule.Slot.{Slot}
+use Rattle.emu_machine.specs.Netlist.{chip_at}
+use Rattle.emu_machine.specs.State.{frame_slots, actions_of, Timed, timed, timed_actions, is_last, ending}
+use Rattle.emu_machine.specs.Acceptance.{register_of, is_hold, is_loaded, send_fits}
+use Rattle.facts.proofs.Tests.{no, left, right, below}
+use Rattle.cycle_sim.specs.Standing.{CanRun, IsRegister, ActionStands, SlotsStand, CanTake, CanSend}
+use Rattle.cycle_sim.specs.Tables.{HaveSizes}
+use Rattle.cycle_sim.proofs.Chips.{chip_here, net_chip_low}
+
+module _ (r : Results) (wires : List Wire) (nets : ℕ) where
+  hold_there : (c k : ℕ) (o : Option EmuRegister) → register_of r.net c k ≡ o → is_hold o ≡ true → IsRegister r c k
+  hold_there c k None e h = no h
+  hold_there c k (Some register) e h = (register, e)
+
+  loaded_there : (c k : ℕ) (o : Option EmuRegister) → register_of r.net c k ≡ o → is_loaded o ≡ true → IsRegister r c k
+  loaded_there c k None e h = no h
+  loaded_there c k (Some register) e h = (register, e)
+
+  sent_there : (slots t : ℕ) (wire : WireId) (net : ChipNetId) (register : RegId) (o : Option Wire) → slice_get wires wire.place ≡ o
+      → send_fits r.net slots t net register.place o ≡ true → CanTake r wires nets (Send wire net register)
+  sent_there slots t wire net register None e h = no h
+  sent_there slots t wire net register (Some ends) e h =
+      let named = left _ _ h in (
+        ends,
+        e,
+        hold_there ends.to.place register.place (register_of r.net ends.to.place register.place) refl (right _ _ named),
+        below net.place (chip_at r.net ends.from.place).nets (left _ _ named),
+      )
+
+  -- an action that stands names what it takes
+  pub can_take : (slots t : ℕ) (a : Action) → ActionStands r wires nets slots t a → CanTake r wires nets a
+  can_take slots t (Input chip register net) stands = (
+    hold_there chip.place register.place (register_of r.net chip.place register.place) refl (left _ _ stands.fits),
+    below net.place nets (right _ _ stands.fits),
+  )
+  can_take slots t (Load chip register) stands =
+      loaded_there chip.place register.place (register_of r.net chip.place register.place) refl stands.fits
+  can_take slots t (Send wire net register) stands =
+      sent_there slots t wire net register (slice_get wires wire.place) refl stands.fits
+  can_take slots t (Write chip mem port) stands = no (sym stands.no_memory)
+  can_take slots t (Read chip mem port) stands = no (sym stands.no_memory)
+
+  -- and what it sends
+  pub can_send : (shown : List (List Bool)) → HaveSizes r shown → (a : Action) → CanTake r wires nets a → CanSend wires shown a
+  can_send shown sizes (Input chip register net) can = tt
+  can_send shown sizes (Load chip register) can = tt
+  can_send shown sizes (Send wire net register) (ends, at, register_is, low) =
+      let chip_low : ends.from.place < length r.net = net_chip_low r.net ends.from.place net.place low in
+      let size : length (get_or shown ends.from.place []) ≡ (chip_at r.net ends.from.place).nets =
+      sizes.sizes ends.from.place (chip_at r.net ends.from.place) (chip_here r.net ends.from.place chip_low) in (
+        ends,
+        at,
+        omega (arith, sizes.count, chip_low),
+        omega (arith, size, low),
+      )
+  can_send shown sizes (Write chip mem port) can = tt
+  can_send shown sizes (Read chip mem port) can = tt
+
+-- ## The actions that end in a slot
+
+-- all actions of some slots, with their numbers from one on
+abbrev pub timed_from : ℕ → List Slot → List Timed
+timed_from k slots = flat_map (λ (t, slot). map (timed t) slot.actions) (enumerate_from k slots)
+
+module _ (P : Action → Type 0) where
+  all_timed : (k : ℕ) (slots : List Slot) → ((t : ℕ) (a : Action) → Contains (actions_of slots t) a → P a) → All (λ a. P a.action) (timed_from k slots)
+  all_timed k [] h = All-nil (λ (a : Timed). P a.action)
+  all_timed k (slot ∷ slots) h =
+      All-append (λ (a : Timed). P a.action) (map (timed k) slot.actions) (timed_from (k + 1) slots)
+      (All-map (λ (a : Timed). P a.action) (timed k) slot.actions (λ j d low. h 0 (get_or slot.actions j d) (Contains-get_or slot.actions j d low)))
+      (all_timed (k + 1) slots (λ t. h (suc t)))
+
+  -- what holds of all actions of a frame holds of those that end in a slot
+  pub all_ending : (wires : List Wire) (slots : List Slot) (t : ℕ) → ((u : ℕ) (a : Action) → Contains (actions_of slots u) a → P a) → All P (ending wires slots t)
+  all_ending wires slots t h =
+      All-map P (λ (a : Timed). a.action) (filter (is_last wires t) (timed_actions slots))
+      (All-filter (is_last wires t) (λ (a : Timed). P a.action) (timed_actions slots) (all_timed 0 slots h))
+
+pub ending_taken : (r : Results) (wires : List Wire) (nets : ℕ) (slots : List Slot) (t : ℕ) → SlotsStand r wires nets slots → All (CanTake r wires nets) (ending wires slots t)
+ending_taken r wires nets slots t stand =
+    all_ending (CanTake r wires nets) wires slots t (λ u a has. can_take r wires nets (length slots) u a (stand u a has))
+
+pub starting_taken : (r : Results) (wires : List Wire) (nets : ℕ) (slots : List Slot) (t : ℕ) → SlotsStand r wires nets slots → All (CanTake r wires nets) (actions_of slots t)
+starting_taken r wires nets slots t stand j d low =
+    can_take r wires nets (length slots) t (get_or (actions_of slots t) j d) (stand t (get_or (actions_of slots t) j d) (Contains-get_or (actions_of slots t) j d low))
+
+pub starting_sent : (r : Results) (wires : List Wire) (nets : ℕ) (slots : List Slot) (t : ℕ) (shown : List (List Bool)) → SlotsStand r wires nets slots → HaveSizes r shown
+    → All (CanSend wires shown) (actions_of slots t)
+starting_sent r wires nets slots t shown stand sizes j d low =
+    can_send r wires nets shown sizes (get_or (actions_of slots t) j d) (starting_taken r wires nets slots t stand j d low)
+
+-- the slots of a frame, told of results, wires and slots that are the same
+pub slots_there : (r same : Results) (wires same_wires : List Wire) (nets count k : ℕ) (slots : List Slot) → CanRun same same_wires count
+    → r ≡ same → wires ≡ same_wires → nets ≡ count → slots ≡ frame_slots same k → SlotsStand r wires nets slots
+slots_there r same wires same_wires nets count k slots runs results_are wires_are number slots_are =
+    subst (λ (some : List Slot). SlotsStand r wires nets some) (sym slots_are)
+    (subst (λ (q : Results). SlotsStand q wires nets (frame_slots same k)) (sym results_are)
+    (subst (λ (some : List Wire). SlotsStand same some nets (frame_slots same k)) (sym wires_are)
+    (subst (λ (n : ℕ). SlotsStand same same_wires n (frame_slots same k)) (sym number) (runs.actions k))))

@@ -1,0 +1,47 @@
+-- What actions put on wires.
+use Rattle.std.proofs.Common.{◌≡◌, ◌+◌, ℕ, Bool, true, false, List, [], ◌∷◌, drop, get_or, refl, sym, ap, subst, ◌∙◌}
+use Rattle.std.specs.Prelude.{Some, None, slice_get, unwrap_or}
+use Rattle.std.specs.List.{list_all}
+use Rattle.id_arena.specs.declared.wire.Wire.{Wire}
+use Rattle.emu_machine.specs.declared.results.Results.{Results}
+use Rattle.emu_machine.specs.declared.schedule.Action.{Action}
+use Rattle.emu_machine.specs.declared.schedule.Action.TheVariants.{Input, Load, Send, Write, Read}
+use Rattle.emu_machine.specs.State.{State, action_carried, first_given}
+use Rattle.facts.proofs.Tests.{no}
+use Rattle.cycle_sim.specs.Tables.{state_of}
+use Rattle.cycle_sim.specs.Takes.{HasSentOne, HasSent, sends_nothing}
+use Rattle.cycle_sim.proofs.Taking.{first_of_two, split_at}
+
+-- actions that are no `send` put nothing on a wire
+pub nothing_sent : (r : Results) (wires : List Wire) (x : State) (actions : List Action) → list_all sends_nothing actions ≡ true → (w : ℕ)
+    → first_given (λ a. action_carried r.net wires x a w) actions ≡ None
+nothing_sent r wires x [] none w = refl
+nothing_sent r wires x (Input chip register net ∷ actions) none w = nothing_sent r wires x actions none w
+nothing_sent r wires x (Load chip register ∷ actions) none w = nothing_sent r wires x actions none w
+nothing_sent r wires x (Send wire net register ∷ actions) none w = no none
+nothing_sent r wires x (Write chip mem port ∷ actions) none w = nothing_sent r wires x actions none w
+nothing_sent r wires x (Read chip mem port ∷ actions) none w = nothing_sent r wires x actions none w
+
+module _ (r : Results) (wires : List Wire) (shown : List (List Bool)) where
+  pub nothing_yet : (carried : List Bool) → HasSent r wires shown [] carried carried
+  nothing_yet carried t all w = refl
+
+  pub one_sent : (actions : List Action) (k : ℕ) (left : ℕ) → left ≡ k + 1
+      → (action : Action) → slice_get actions k ≡ Some action
+      → (before carried after : List Bool) → HasSent r wires shown (drop left actions) before carried → HasSentOne r wires shown action carried after
+      → HasSent r wires shown (drop k actions) before after
+  one_sent actions k left next action at before carried after rest one =
+      subst (λ (some : List Action). HasSent r wires shown some before after) (sym (split_at actions k left next action at)) step
+    where
+      step : HasSent r wires shown (action ∷ drop left actions) before after
+      step t all w =
+          one t all w
+          ∙ ap (unwrap_or (action_carried r.net wires (state_of t) action w)) (rest t all w)
+          ∙ first_of_two (action_carried r.net wires (state_of t) action w)
+          (first_given (λ a. action_carried r.net wires (state_of t) a w) (drop left actions))
+          (get_or before w false)
+
+  pub all_sent : (actions : List Action) (left : ℕ) → left ≡ 0 → (before after : List Bool)
+      → HasSent r wires shown (drop left actions) before after → HasSent r wires shown actions before after
+  all_sent actions left none before after h =
+      subst (λ (k : ℕ). HasSent r wires shown (drop k actions) before after) none h
