@@ -67,7 +67,7 @@ refused_design T command top texts (unread.Refused (refusal.Cycle names)) means 
 refused_design T command top texts (unread.Refused (refusal.NotYet what)) means = subst (NotYetMeans command top texts) (sym means.0) (record { parsed = means.1; none = means.2 })
 refused_design T command top texts unread.NoMemory means = tt
 
--- a design that goes in a circle is refused
+-- a design that has a cycle is refused
 pub refused_rank : {Y : Type 0} (T : Y → Type 0) (command : Command) (top : List ℕ) (texts : Texts) (p : Parts) (why : Unread) → SaysDesign top (texts Design) p → RankMeans p (Err why) → AllMean command top texts T (Err why)
 refused_rank T command top texts p (unread.Refused (refusal.Faulty fault)) says means = absurd means
 refused_rank T command top texts p (unread.Refused (refusal.Cycle names)) says means = record { design = p; says = says; cycle = means }

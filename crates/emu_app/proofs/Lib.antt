@@ -9,7 +9,7 @@ pub mod Endings
 mod Refusals
 pub mod FreeTests
 pub mod Completing
-pub mod Circles
+pub mod CycleNodes
 pub mod Settling
 pub mod Fitness
 pub mod Replaying

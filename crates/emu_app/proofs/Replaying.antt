@@ -4,13 +4,12 @@ use Rattle.std.proofs.lemmas.List.{take-map}
 use Rattle.std.proofs.lemmas.Map.Views.{Contains-from_any}
 use Rattle.std.proofs.lemmas.Option.{slice_get_within, get_or_from_slice_get, slice_get-get_or}
 use Rattle.id_arena.specs.declared.keys.NetId.{NetId}
-use Rattle.id_arena.specs.declared.wire.Wire.{Wire}
 use Rattle.design_core.specs.declared.node.NodeId.{NodeId}
 use Rattle.design_core.specs.declared.parts.Parts.{Parts}
 use Rattle.design_core.specs.declared.values.Event.{Event}
 use Rattle.design_core.specs.declared.values.PortBit.{PortBit}
 use Rattle.design_core.specs.Dependency.{IsRanked}
-use Rattle.design_core.specs.Design.{IsDesign, is_net, port_bits}
+use Rattle.design_core.specs.Design.{IsDesign, is_net, net_count, port_bits}
 use Rattle.design_core.specs.Event.{IsHistory, HasOneHistory}
 use Rattle.design_core.specs.Influence.{Group, all_groups}
 use Rattle.design_core.specs.Settled.{IsOpened, OpeningFits}
@@ -26,7 +25,7 @@ use Rattle.emu_machine.specs.declared.schedule.Frame.{Frame}
 use Rattle.emu_machine.specs.declared.place.Place.TheVariants as place
 use Rattle.emu_machine.specs.declared.map.Spot.{Spot}
 use Rattle.emu_machine.specs.declared.map.Subject.{Subject}
-use Rattle.emu_machine.specs.declared.map.Subject.TheVariants.{Net, Up, Down, Take, Next, TakeWrite}
+use Rattle.emu_machine.specs.declared.map.Subject.TheVariants.{Net, Up, Down, Take, Next, TakeWrite, Old, TakeRead}
 use Rattle.emu_machine.specs.Acceptance.{A2, A4, A5, A7, Holds, frame_differs}
 use Rattle.emu_machine.specs.Headline.{EventsFit, event_values}
 use Rattle.emu_machine.specs.Law.{IsCase, MapFits}
@@ -34,7 +33,8 @@ use Rattle.emu_machine.specs.Mapped.{IsLoaded, IsValueOf, subject}
 use Rattle.emu_machine.specs.Netlist.{IsNetlist, chip_at}
 use Rattle.emu_machine.specs.Plain.{IsPlainResults}
 use Rattle.emu_machine.specs.State.{State, after_frame, run_of}
-use Rattle.cycle_sim.specs.Judged.{IsJudged}
+use Rattle.cycle_sim.specs.Judged.{IsPlainCase, JudgedCanLoad, JudgedCanRun}
+use Rattle.cycle_sim.specs.Standing.{CanRun}
 use Rattle.cycle_sim.specs.Loading.{CanLoad, FreeAreZero, IsDesignNet}
 use Rattle.schedule_check.specs.Verdict.{all_inputs}
 use Rattle.settled_model.specs.Opening.{AreInputs, Opens}
@@ -111,22 +111,23 @@ frame_there p chip results r fit bits event has =
     let zeroth : event.group.place ≡ 0 = bits.groups event has in
     omega (arith, first, zeroth)
 
-pub is_judged : (p : Parts) (chip : OneChip) (results : Results) → CanReplay (case_of p chip results) → IsDesign p → IsNetlist results.net → MapFits results → IsPlainResults results → IsJudged (case_of p chip results)
-is_judged p chip results fit design netlist mapped plain =
-    record {
-      inside = fit.inside;
-      design = design;
-      groups = λ k g here. absurd (none k g here);
-      netlist = netlist;
-      mapped = mapped;
-      plain = plain;
-      no_cycle = fit.rules A2 (omega arith);
-      actions = fit.rules A5 (omega arith);
-      fitting = fit.rules A7 (omega arith);
-    }
+-- plain results for a design without groups make a plain case
+plain_case : (p : Parts) (chip : OneChip) (results : Results) → IsDesign p → IsNetlist results.net → IsPlainResults results → IsPlainCase (case_of p chip results)
+plain_case p chip results design netlist plain =
+    record { design = design; groups = λ k g here. absurd (none k g here); netlist = netlist; plain = plain }
   where
     none : (k : ℕ) (g : Group) → slice_get [] k ≡ Some g → ⊥
     none k g here = cc
+
+-- the machine can run what the rules A1 to A9 let run
+pub can_run : JudgedCanRun → (p : Parts) (chip : OneChip) (results : Results) → CanReplay (case_of p chip results) → IsDesign p → IsNetlist results.net → IsPlainResults results
+    → CanRun results [] (net_count p)
+can_run law p chip results fit design netlist plain =
+    law (case_of p chip results) fit.inside (plain_case p chip results design netlist plain) (fit.rules A2 (omega arith)) (fit.rules A5 (omega arith))
+
+pub can_load : JudgedCanLoad → (p : Parts) (chip : OneChip) (results : Results) → CanReplay (case_of p chip results) → MapFits results → IsPlainResults results → CanLoad p results
+can_load law p chip results fit mapped plain =
+    law (case_of p chip results) fit.inside mapped plain (fit.rules A7 (omega arith))
 
 -- the map's outputs are nets that are there
 pub spots_there : (results : Results) → MapFits results → (spot : Spot) → Contains results.map.outputs spot → spot.net.place < (chip_at results.net spot.chip.place).nets
@@ -152,6 +153,8 @@ loaded_same p results v w x can same loaded =
     value (Some (Take e)) none b is = absurd none
     value (Some (Next e)) none b is = absurd none
     value (Some (TakeWrite m k)) none b is = absurd none
+    value (Some (Old m k i)) none b is = absurd none
+    value (Some (TakeRead m k)) none b is = absurd none
     value None none b is = absurd none
 
 -- what is loaded from an opened valuation is loaded from each of the same opening
@@ -169,7 +172,7 @@ same_trace : LoadedTraceIsOne → (p : Parts) (chip : OneChip) (results : Result
     → IsLoaded p results v x → FreeAreZero results x → IsLoaded p results v y → FreeAreZero results y
     → machine_trace p results (run_of results [] x r.events) ≡ machine_trace p results (run_of results [] y r.events)
 same_trace law p chip results r v x y case fit plain =
-    law (case_of p chip results) fit.inside r.events v x y case plain.schedule (fit.rules A5 (omega arith))
+    law (case_of p chip results) fit.inside r.events v x y case plain (fit.rules A2 (omega arith)) (fit.rules A5 (omega arith))
 
 module _ (p : Parts) (chip : OneChip) (results : Results) (r : Recording) (x : State) (fit : CanReplay (case_of p chip results)) (plain : IsPlainResults results) where
   -- the trace of a machine that is loaded from the opened valuation
@@ -205,34 +208,30 @@ loaded_trace agree single one opens law p chip results r x y fit plain design ra
     (subst (λ (z : State). FreeAreZero results z) (sym same) free)
 
 -- the states after the first events are the first states
-first_run : (results : Results) (wires : List Wire) (x : State) (events : List Event) (count : ℕ) → run_of results wires x (take count events) ≡ take count (run_of results wires x events)
-first_run results wires x events zero = refl
-first_run results wires x [] (suc count) = refl
-first_run results wires x (e ∷ es) (suc count) = ap (λ xs. after_frame results wires e x ∷ xs) (first_run results wires (after_frame results wires e x) es count)
+first_run : (results : Results) (x : State) (events : List Event) (count : ℕ) → run_of results [] x (take count events) ≡ take count (run_of results [] x events)
+first_run results x events zero = refl
+first_run results x [] (suc count) = refl
+first_run results x (e ∷ es) (suc count) = ap (λ xs. after_frame results [] e x ∷ xs) (first_run results (after_frame results [] e x) es count)
 
 module _ (R : List ℕ → Type 0) (p : Parts) (results : Results) (events : List Event) (x y : State) (old new : Option (List ℕ)) (before after : ℕ) (is : R (machine_trace p results (run_of results [] x events))) where
   -- all events are done, and the trace is written
-  pub run_written : (X : Type 0) (done : X) → ((wires : List Wire) → RunMeans p results wires events x y old new before after (Ok done)) → WritesTrace R old new
-  run_written X done means = record { trace = machine_trace p results (run_of results [] x events); means = is; text = (means []).1 }
+  pub run_written : (X : Type 0) (done : X) → RunMeans p results [] events x y old new before after (Ok done) → WritesTrace R old new
+  run_written X done means = record { trace = machine_trace p results (run_of results [] x events); means = is; text = means.1 }
 
   stops : BrokenTraces → (count : ℕ) → BreaksOff p.outputs (map (spots_of results) (run_of results [] x (take count events))) old new → TraceStops R old new
   stops law count breaks =
       let shown : List (List Bool) = map (spots_of results) (run_of results [] x events) in
       let first : map (spots_of results) (run_of results [] x (take count events)) ≡ take count shown =
-      ap (map (spots_of results)) (first_run results [] x events count) ∙ sym (take-map (spots_of results) count (run_of results [] x events)) in
+      ap (map (spots_of results)) (first_run results x events count) ∙ sym (take-map (spots_of results) count (run_of results [] x events)) in
       let cut : (bytes : ℕ) × (bytes ≤ length (machine_trace p results (run_of results [] x events))) × AppendsWhereTold old (take bytes (machine_trace p results (run_of results [] x events))) new =
       law p.outputs shown count old new (subst (λ lines. BreaksOff p.outputs lines old new) first breaks) in
       record { trace = machine_trace p results (run_of results [] x events); means = is; count = cut.0; some = cut.1; text = cut.2 }
 
   -- a fault in the line of an event breaks the trace off
   pub run_stopped : (X : Type 0) (M : Answer → Type 0) (fault : StoreFault) → BrokenTraces
-      → ((wires : List Wire) → RunMeans {X = X} p results wires events x y old new before after (Err fault)) → Comes M R old new before after (Err fault)
-  run_stopped X M store.Failed law means =
-      let here : RunMeans {X = X} p results [] events x y old new before after (Err store.Failed) = means [] in
-      (here.0, stops law here.1.0 here.1.2)
-  run_stopped X M store.NoMemory law means =
-      let here : RunMeans {X = X} p results [] events x y old new before after (Err store.NoMemory) = means [] in
-      inr (stops law here.1.0 here.1.2)
+      → RunMeans {X = X} p results [] events x y old new before after (Err fault) → Comes M R old new before after (Err fault)
+  run_stopped X M store.Failed law means = (means.0, stops law means.1.0 means.1.2)
+  run_stopped X M store.NoMemory law means = inr (stops law means.1.0 means.1.2)
 
 -- ## The texts
 

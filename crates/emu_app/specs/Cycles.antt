@@ -1,4 +1,4 @@
--- What ranking a design comes to, and the names that a circle is told by.
+-- What ranking a design comes to, and the names that a cycle is told by.
 -- The rules are told in docs/RULES.md, "Dependencies and rank", and docs/FORMATS.md, "Printed texts".
 use Rattle.std.specs.Prelude.{◌≡◌, ℕ, List, [], ◌∷◌, ◌++◌, codes, decimal, Result, Ok, Err}
 use Rattle.id_arena.specs.declared.keys.ElemId.{ElemId}
@@ -33,7 +33,7 @@ AreNodeTexts p (a ∷ nodes) (text ∷ texts) = IsNodeText p a text × AreNodeTe
 AreNodeTexts p [] (text ∷ texts) = ⊥
 AreNodeTexts p (a ∷ nodes) [] = ⊥
 
--- the design has a circle, and these texts name its nodes
+-- the design has a cycle, and these texts name its nodes
 pub record HasCycle (p : Parts) (texts : List (List ℕ)) : Type 0 where
   pub nodes : List NodeId
   pub is_cycle : IsCycle p nodes

@@ -1,3 +1,4 @@
+pub mod Status
 pub mod What
 pub mod Command
 pub mod Fetching

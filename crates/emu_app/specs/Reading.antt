@@ -143,7 +143,7 @@ pub record FirstUnread (command : Command) (top : List ℕ) (texts : Texts) (wha
   pub here : IsRead top texts what → ⊥
   pub earlier : EarlierAreRead command top texts what
 
--- the design goes in a circle, which these texts name
+-- the design has a cycle, which these texts name
 pub record GoesRound (top text : List ℕ) (names : List (List ℕ)) : Type 0 where
   pub design : Parts
   pub says : SaysDesign top text design
@@ -154,7 +154,7 @@ abbrev pub NotYetMeans : Command → List ℕ → Texts → What → Type 0
 NotYetMeans command top texts Design = HasNoDesign top (texts Design)
 NotYetMeans command top texts other = FirstUnread command top texts other
 
--- Why the texts are refused: the design text has no tree, or the design goes in a circle, or a text is not
+-- Why the texts are refused: the design text has no tree, or the design has a cycle, or a text is not
 -- of its form.
 abbrev pub Refuses : Command → List ℕ → Texts → Refusal → Type 0
 Refuses command top texts (refusal.Faulty fault) = HasFault (texts Design) fault.kind fault.at

@@ -109,7 +109,7 @@ fn append_frame(text: &mut Vec<u8>, frame: &Frame) -> Result<(), NoMemory>
     append(text, b"\n")
 }
 
-/// The line of a circle.
+/// The line of a cycle.
 fn cycle_text(alloc: Global, names: &[Text]) -> Result<Vec<u8>, NoMemory>
     ensures { IfOk result (λ text. text.items ≡ cycle_text names.now) }
 {

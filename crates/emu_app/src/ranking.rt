@@ -1,4 +1,4 @@
-//! The order of a design's nodes, or the names on its circle.
+//! The order of a design's nodes, or the names on its cycle.
 
 ghost use Rattle.std.specs.Prelude.{◌+◌, ◌≡◌, ◌∷◌, [], ◌++◌, All, IfOk, OnOk};
 ghost use Rattle.design_core.specs.Dependency.{IsNode};
@@ -12,7 +12,7 @@ use id_arena::MemId;
 use itoa::Buffer;
 use std::alloc::Global;
 
-/// The design with its nodes in order, or the names on the circle of those that depend on themselves.
+/// The design with its nodes in order, or the names on the cycle of those that depend on themselves.
 pub fn rank_design(alloc: Global, design: &Design) -> Result<Ranked<'_>, Unread>
     ensures { RankMeans design.now result }
 {

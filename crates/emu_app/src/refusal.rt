@@ -38,7 +38,7 @@ pub struct Fault {
 pub enum Refusal {
     /// The design text has this fault.
     Faulty(Fault),
-    /// The design's nodes go in a circle, whose names these are.
+    /// The design's nodes go in a cycle, whose names these are.
     Cycle(List<Text>),
     /// This text is not of the form that is read so far.
     NotYet(What),

@@ -228,7 +228,7 @@ fn replay_recording<O: Sink>(
     let Ok(loaded) = load(alloc, ranked, results, recording.inputs) else {
         return Err(StoreFault::NoMemory);
     };
-    let Ok(mut machine) = Machine::open(alloc, results, loaded) else {
+    let Ok(mut machine) = Machine::open(alloc, results, &[], loaded) else {
         return Err(StoreFault::NoMemory);
     };
     match replay_lines(alloc, &mut machine, design, results, &recording.events, out) {

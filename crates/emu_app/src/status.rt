@@ -1,5 +1,8 @@
 //! How a command ends.
 
+ghost use Rattle.std.specs.Prelude.{◌≡◌};
+ghost use Rattle.emu_app.specs.Status.{code};
+
 /// How a command ended. The numbers are the exit statuses of the program.
 #[derive(Clone, Copy, Debug, Drop, PartialEq, Eq)]
 pub enum Status {
@@ -23,7 +26,9 @@ pub enum Status {
 
 impl Status {
     /// The exit status of the program.
-    pub fn code(self) -> u8 {
+    pub fn code(self) -> u8
+        ensures { result ≡ code self }
+    {
         self as u8
     }
 }

@@ -1,10 +1,9 @@
 //! Recorded commands: runs each line of a table as a command of `emu`, and prints what comes of it.
 //!
 //! The table is the file that the program's argument names. Each line is printed after `> `, then what
-//! the command prints, then its status. The stored output holds answers that two other programs gave,
-//! which were written apart from each other for the same rules, and answers that were worked out by hand
-//! and compared with those of one of the two; so this shows for each command all that it prints, to the
-//! last byte, and how it ends. It is a test, and has no contract.
+//! the command prints, then its status. The stored output was not made by this program: it holds
+//! the answers that the rules give. So this shows for each command all that it prints, to the last byte,
+//! and how it ends. It is a test, and has no contract.
 #![tactic(auto)]
 
 use emu_app::run;

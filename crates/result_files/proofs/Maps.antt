@@ -8,7 +8,7 @@ use Rattle.emu_machine.specs.declared.map.ChipMap.{ChipMap}
 use Rattle.emu_machine.specs.declared.map.Spot.{Spot}
 use Rattle.emu_machine.specs.declared.map.StateMap.{StateMap}
 use Rattle.emu_machine.specs.declared.map.Subject.{Subject}
-use Rattle.emu_machine.specs.declared.map.Subject.TheVariants.{Net, Up, Down, Take, Next, TakeWrite}
+use Rattle.emu_machine.specs.declared.map.Subject.TheVariants.{Net, Up, Down, Take, Next, TakeWrite, Old, TakeRead}
 use Rattle.emu_machine.specs.declared.netlist.Chip.{Chip}
 use Rattle.emu_machine.specs.declared.schedule.Schedule.{Schedule}
 use Rattle.emu_machine.specs.Law.{ChipEntryFits}
@@ -26,6 +26,8 @@ is_net tree (Down n) is = is
 is_net tree (Take e) is = is
 is_net tree (Next e) is = is
 is_net tree (TakeWrite m p) is = is
+is_net tree (Old m p b) is = is
+is_net tree (TakeRead m p) is = is
 
 -- what a tree says is plain
 pub map_plain : (tree : Data) (map : StateMap) → IsMapTree tree map → IsPlainMap map
@@ -97,11 +99,15 @@ one_subject tree (Net n) (Down m) a b = absurd b
 one_subject tree (Net n) (Take e) a b = absurd b
 one_subject tree (Net n) (Next e) a b = absurd b
 one_subject tree (Net n) (TakeWrite m p) a b = absurd b
+one_subject tree (Net n) (Old m p k) a b = absurd b
+one_subject tree (Net n) (TakeRead m p) a b = absurd b
 one_subject tree (Up n) w a b = absurd a
 one_subject tree (Down n) w a b = absurd a
 one_subject tree (Take e) w a b = absurd a
 one_subject tree (Next e) w a b = absurd a
 one_subject tree (TakeWrite m p) w a b = absurd a
+one_subject tree (Old m p k) w a b = absurd a
+one_subject tree (TakeRead m p) w a b = absurd a
 
 one_kept : (tree : Data) (v w : Bool) → IsKeptTree tree v → IsKeptTree tree w → v ≡ w
 one_kept tree v w a b = let same : boolean v ≡ boolean w = sym a ∙ b in cc

@@ -6,7 +6,7 @@ use Rattle.std.proofs.lemmas.Option.{same_Some}
 use Rattle.serde_json.specs.Data.{Data}
 use Rattle.result_files.specs.Faults.{Answers}
 use Rattle.result_files.specs.Lists.{SayEach, IsListOf, HasList}
-use Rattle.result_files.specs.Trees.{list, HasMember}
+use Rattle.result_files.specs.Trees.{list, AreFew, HasMember}
 use Rattle.result_files.specs.declared.fault.FormFault.{FormFault}
 use Rattle.result_files.specs.declared.fault.FormFault.TheVariants.{NotYet, NoMemory}
 use Rattle.result_files.proofs.Inside.{same_list}
@@ -32,10 +32,10 @@ same_answer P Q (Err NotYet) to from answer = λ a q. answer a (from a q)
 same_answer P Q (Err NoMemory) to from answer = tt
 
 -- the entries of a list are answered
-pub list_answered : {A : Type 0} (Says : Data → A → Type 0) (tree : Data) (trees : List Data) (r : Result (List A) FormFault) → tree ≡ list trees → Answers (SayEach Says trees) r → Answers (IsListOf Says tree) r
-list_answered Says tree trees r is answer =
+pub list_answered : {A : Type 0} (Says : Data → A → Type 0) (tree : Data) (trees : List Data) (r : Result (List A) FormFault) → tree ≡ list trees → AreFew trees → Answers (SayEach Says trees) r → Answers (IsListOf Says tree) r
+list_answered Says tree trees r is few answer =
     same_answer (SayEach Says trees) (IsListOf Says tree) r
-    (λ values each. record { trees = trees; tree_is = is; each = each })
+    (λ values each. record { trees = trees; tree_is = is; few = few; each = each })
     (λ values of. subst (λ ts. SayEach Says ts values) (same_list of.trees trees (sym of.tree_is ∙ is)) of.each)
     answer
 

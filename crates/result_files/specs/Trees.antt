@@ -1,5 +1,5 @@
 -- The JSON trees that the texts of results are made of.
-use Rattle.std.specs.Prelude.{◌≡◌, ℕ, ◌≤◌, List, Option, Some, MatchOption}
+use Rattle.std.specs.Prelude.{◌≡◌, ℕ, ◌≤◌, List, length, Option, Some, MatchOption}
 use Rattle.serde_json.specs.Data.{Data, array, number, unsigned}
 use Rattle.serde_json.specs.Find.{get}
 use Rattle.serde_json.specs.View.{items_of}
@@ -7,6 +7,10 @@ use Rattle.serde_json.specs.View.{items_of}
 -- a list with exactly these entries
 abbrev pub list : List Data → Data
 list entries = array (items_of entries)
+
+-- the entries are so few that they can be numbered with 32 bits
+abbrev pub AreFew : List Data → Type 0
+AreFew entries = length entries ≤ 4294967295
 
 -- a number written without sign, point and exponent
 abbrev pub whole : ℕ → Data

@@ -1,10 +1,10 @@
 //! Lists of so many entries, and numbers of 32 bits, out of JSON trees.
-ghost use Rattle.std.specs.Prelude.{◌≡◌, ◌≢◌, ◌↔◌, List, [], ◌∷◌, length, map, codes, IsTrue, MatchOption};
+ghost use Rattle.std.specs.Prelude.{◌≡◌, ◌≢◌, ◌↔◌, List, [], ◌∷◌, length, map, codes, IfSome, IsTrue, MatchOption};
 ghost use Rattle.serde_json.specs.Data.{Data};
 ghost use Rattle.serde_json.specs.View.{view};
-ghost use Rattle.result_files.specs.Trees.{list, whole, IsWordTree, Finds, HasMember};
+ghost use Rattle.result_files.specs.Trees.{list, whole, AreFew, IsWordTree, Finds, HasMember};
 
-use json_members::{word_member, word_of};
+use json_members::{array_of, word_member, word_of};
 use serde_json::Value;
 
 /// The number of 32 bits that a tree is.
@@ -14,14 +14,14 @@ pub(crate) fn read_word(tree: &Value) -> Option<u32>
     word_of(tree)
 }
 
-/// The entries of a tree that is a list.
+/// The entries of a tree that is a list, of which there are at most 4,294,967,295.
 pub(crate) fn read_entries(tree: &Value) -> Option<&[Value]>
-    ensures { MatchOption result
-        ((entries : List Data) → view tree.now ≢ list entries)
+    ensures entries { MatchOption result
+        ((entries : List Data) → AreFew entries → view tree.now ≢ list entries)
         (λ entries. view tree.now ≡ list (map view entries.now)) }
+    ensures few { IfSome result (λ entries. AreFew (map view entries.now)) }
 {
-    let entries = tree.as_array()?;
-    Some(entries.as_slice())
+    array_of(tree)
 }
 
 /// The entry of a list that has only one.

@@ -1,13 +1,13 @@
 -- The one chip of plain results, its entry, and the one group.
 use Rattle.std.proofs.Common.{◌≡◌, ℕ, suc, ◌<◌, List, [], ◌∷◌, length, refl, subst, sym, ap, ◌∙◌}
-use Rattle.std.specs.Prelude.{Option, Some, None, slice_get, unwrap_or, Contains}
-use Rattle.std.proofs.lemmas.Option.{none-some, slice_get_within, get_or_from_slice_get, slice_get-get_or}
+use Rattle.std.specs.Prelude.{Option, Some, None, slice_get, unwrap_or}
+use Rattle.std.proofs.lemmas.Option.{none-some, slice_get-get_or}
 use Rattle.design_core.specs.Influence.{Group, all_groups}
 use Rattle.emu_machine.specs.declared.netlist.Chip.{Chip}
 use Rattle.emu_machine.specs.declared.netlist.EmuGate.{EmuGate}
 use Rattle.emu_machine.specs.declared.netlist.EmuRegister.{EmuRegister}
 use Rattle.emu_machine.specs.declared.map.Subject.{Subject}
-use Rattle.emu_machine.specs.declared.map.Subject.TheVariants.{Net, Up, Down, Take, Next, TakeWrite}
+use Rattle.emu_machine.specs.declared.map.Subject.TheVariants.{Net, Up, Down, Take, Next, TakeWrite, Old, TakeRead}
 use Rattle.emu_machine.specs.declared.map.ChipMap.{ChipMap}
 use Rattle.id_arena.specs.declared.keys.NetId.{NetId}
 use Rattle.emu_machine.specs.Netlist.{chip_at, no_chip}
@@ -16,12 +16,7 @@ use Rattle.emu_machine.specs.Plain.{IsPlainChip, IsPlainGate, IsPlainRegister, I
 use Rattle.emu_machine.specs.Law.{ChipEntryFits}
 use Rattle.emu_machine.specs.Acceptance.{Case}
 use Rattle.schedule_check.specs.Verdict.{IsPlainCase, all_inputs}
-
-pub contained : {X : Type 0} (xs : List X) (k : ℕ) (x : X) → slice_get xs k ≡ Some x → Contains xs x
-contained xs k x at = (k, slice_get_within xs k x at, get_or_from_slice_get xs k x x at)
-
-pub of_contained : {X : Type 0} (xs : List X) (x : X) → Contains xs x → (k : ℕ) × (slice_get xs k ≡ Some x)
-of_contained xs x (k, low, at) = (k, slice_get-get_or xs k x low ∙ ap Some at)
+use Rattle.facts.proofs.Places.{contains_at}
 
 module _ (c : Case) (s : IsPlainCase c) where
   pub chip_is : chip_at c.results.net 0 ≡ s.results.chip
@@ -32,9 +27,6 @@ module _ (c : Case) (s : IsPlainCase c) where
 
   pub entry_is : chip_map c.results 0 ≡ s.results.map.entry
   entry_is = ap (λ (entries : List ChipMap). unwrap_or (slice_get entries 0) no_chip_map) s.results.map.one
-
-  pub other_entry : (k : ℕ) → chip_map c.results (suc k) ≡ no_chip_map
-  other_entry k = ap (λ (entries : List ChipMap). unwrap_or (slice_get entries (suc k)) no_chip_map) s.results.map.one
 
   pub plain_chip : IsPlainChip (chip_at c.results.net 0)
   plain_chip = subst (λ (x : Chip). IsPlainChip x) (sym chip_is) s.results.plain
@@ -55,11 +47,13 @@ module _ (c : Case) (s : IsPlainCase c) where
   plain_subject (Take e) h = absurd h
   plain_subject (Next e) h = absurd h
   plain_subject (TakeWrite m k) h = absurd h
+  plain_subject (Old m k b) h = absurd h
+  plain_subject (TakeRead m k) h = absurd h
 
   pub subject_there : (n : ℕ) (what : Subject) → subject c.results 0 n ≡ Some what → (m : NetId) × (what ≡ Net m)
   subject_there n what at =
       plain_subject what
-      (s.results.map.plain.subjects what (contained s.results.map.entry.nets n what (sym (ap (λ (x : ChipMap). slice_get x.nets n) entry_is) ∙ at)))
+      (s.results.map.plain.subjects what (contains_at s.results.map.entry.nets n what (sym (ap (λ (x : ChipMap). slice_get x.nets n) entry_is) ∙ at)))
 
   -- each net of the chip stands for a net
   pub subject_is : (n : ℕ) → n < (chip_at c.results.net 0).nets → (m : NetId) × (subject c.results 0 n ≡ Some (Net m))

@@ -23,7 +23,7 @@ use Rattle.emu_machine.specs.Plain.{IsPlainGate}
 use Rattle.emu_machine.specs.Origins.{origin_of, net_origin, element_origin, is_design_net, has_origin, gate_fits, same_op, have_subjects}
 use Rattle.emu_machine.specs.Marks.{Mark, copied_mark, element_mark}
 use Rattle.emu_machine.specs.Acceptance.{Case, plain_driver_mark, plain_gate_mark}
-use Rattle.marks_law.proofs.Plain.{no, left}
+use Rattle.facts.proofs.Tests.{no, left}
 use Rattle.marks_law.proofs.Inputs.{same_op_is}
 use Rattle.schedule_check.specs.Verdict.{IsPlainCase, Stem}
 use Rattle.schedule_check.proofs.Chips.{subject_is}

@@ -14,7 +14,8 @@ use Rattle.design_core.specs.declared.element.Driver.TheVariants.{Constant, Inpu
 use Rattle.design_core.specs.declared.parts.Parts.{Parts}
 use Rattle.design_core.specs.Design.{IsDesign, net_count, driver, drives, includes, port_bits, element_driver, read_driver, read_bits, ReadBit}
 use Rattle.design_core.specs.Plain.{IsPlain, IsPlainElement, IsPlainOp, IsNoConstant}
-use Rattle.history_law.proofs.Naming.{element_is_driver, driver_is_element, input_is_input_bit, input_bit_is_input, read_bit_is_driver, driver_is_read_bit, number_same}
+use Rattle.history_law.proofs.Naming.{element_is_driver, driver_is_element, input_is_input_bit, input_bit_is_input, read_bit_is_driver, driver_is_read_bit}
+use Rattle.facts.proofs.Tests.{number_same}
 use Rattle.schedule_check.specs.Verdict.{Stem}
 use Rattle.schedule_check.proofs.Passing.{false_of}
 

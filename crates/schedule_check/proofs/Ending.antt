@@ -1,6 +1,6 @@
 -- A11 of plain cases: what marks are left at the end of the frame.
 use Rattle.std.proofs.Common.{◌≡◌, ℕ, zero, suc, ◌<◌, ◌≤◌, arith, Bool, true, false, not, List, [], ◌∷◌, length, map, take, get_or, refl, subst, sym, ap, ◌∙◌, if◌then◌else◌}
-use Rattle.std.specs.Prelude.{◌↔◌, ◌==◌, ◌&&◌, ◌||◌, Option, Some, None, slice_get, count_by, find, unwrap_or, option_and_then, is_some, zip}
+use Rattle.std.specs.Prelude.{◌↔◌, ◌==◌, ◌&&◌, ◌||◌, Option, Some, None, slice_get, count_by, unwrap_or, option_and_then, is_some, zip}
 use Rattle.std.specs.List.{list_all, list_any}
 use Rattle.std.specs.Option.{option_or, option_map_or}
 use Rattle.std.proofs.lemmas.Option.{none-some, same_Some, get_or_from_slice_get, unwrap_or-slice_get}
@@ -21,32 +21,24 @@ use Rattle.emu_machine.specs.declared.map.Subject.TheVariants.{Net}
 use Rattle.emu_machine.specs.declared.place.Place.TheVariants as place
 use Rattle.emu_machine.specs.Netlist.{chip_at, is_chip_net, net_drivers, gate_of, on_net}
 use Rattle.emu_machine.specs.Mapped.{subject, chip_map, is_kept}
-use Rattle.emu_machine.specs.Marks.{Mark, MarkState, no_mark, only_before, only_after, both_marks, has_some, widened, gate_mark, action_mark, marks_step, marks_after, start_marks}
-use Rattle.emu_machine.specs.State.{frame_slots, first_given, on_register, read_port}
-use Rattle.emu_machine.specs.Acceptance.{Case, A4, A5, A11, action_fits, is_inside, is_hold, is_kept_register, register_at, register_ends, memory_ends, read_ends, end_marks, ends_after, has_frame}
-use Rattle.history_law.proofs.Lists.{counted, any_at}
-use Rattle.history_law.proofs.Naming.{number_same, same_number}
-use Rattle.marks_law.proofs.Plain.{no, left, right, not_true, found}
+use Rattle.emu_machine.specs.Marks.{Mark, MarkState, no_mark, only_before, only_after, both_marks, has_some, widened, gate_mark, action_mark, marks_step, marks_at, start_marks}
+use Rattle.emu_machine.specs.State.{frame_slots, actions_of, ending, first_given, on_register, read_port}
+use Rattle.emu_machine.specs.Acceptance.{Case, A4, A5, A11, is_inside, is_hold, is_kept_register, register_at, register_ends, memory_ends, read_ends, end_marks, ends_after, has_frame}
+use Rattle.emu_machine.proofs.OneSlot.{ending_is}
+use Rattle.facts.proofs.Counting.{count_more, counted, not_found}
+use Rattle.facts.proofs.Lists.{any_at}
+use Rattle.facts.proofs.Tests.{number_same, same_number, no, left, right, not_true, must}
+use Rattle.schedule_check.specs.Actions.{is_there}
 use Rattle.schedule_check.specs.Uses.{targets}
 use Rattle.schedule_check.specs.Ends.{register_done, EndsDone, is_given}
 use Rattle.schedule_check.specs.Verdict.{IsPlainCase, Meets, inside_all}
 use Rattle.schedule_check.proofs.Chips.{other_chip, plain_chip, registers_plain, subject_is}
-use Rattle.schedule_check.proofs.Acting.{a5_tested}
 use Rattle.schedule_check.proofs.Weighing.{one_frame}
-use Rattle.schedule_check.proofs.Twice.{only_inputs, two_counted, held, tail_count}
-use Rattle.schedule_check.proofs.Passing.{not_both, true_of, both, false_of}
+use Rattle.schedule_check.proofs.Twice.{all_there, only_inputs, two_counted, held}
+use Rattle.schedule_check.proofs.Passing.{not_both, both, false_of, take_past}
+use Rattle.facts.proofs.Places.{zip_at}
 
 -- ## Nets that no gate drives
-
-unfound : {X : Type 0} (p : X → Bool) (xs : List X) → count_by p xs ≡ 0 → find p xs ≡ None
-unfound {X} p xs none = go (find p xs) refl
-  where
-    go : (o : Option X) → find p xs ≡ o → find p xs ≡ None
-    go None e = e
-    go (Some x) e =
-        let at : (k : ℕ) × (slice_get xs k ≡ Some x) × (p x ≡ true) = found p xs x e in
-        let some : 0 < count_by p xs = counted p xs at.0 x at.1 at.2 in
-        absurd (omega (arith, none, some))
 
 pub unpassed : {A : Type 0} (chip : Chip) (source : ℕ → A) (combine : EmuGate → List A → A) (n room : ℕ) → gate_of chip n ≡ None
     → on_net chip source combine room n ≡ source n
@@ -68,15 +60,35 @@ two_places p (z ∷ zs) (suc i) zero x y ai aj px py one =
     let two : 2 ≤ count_by p (z ∷ zs) = two_counted p (z ∷ zs) (suc i) x ai px (ap (λ b. b || list_any p (take i zs)) head) in
     absurd (omega (arith, one, two))
 two_places p (z ∷ zs) (suc i) (suc j) x y ai aj px py one =
-    let less : count_by p zs ≤ count_by p (z ∷ zs) = tail_count p z zs in
+    let less : count_by p zs ≤ count_by p (z ∷ zs) = count_more p z zs in
     ap suc (two_places p zs i j x y ai aj px py (omega (arith, one, less)))
 
-both_at : {A B : Type 0} (xs : List A) (ys : List B) (i : ℕ) (x : A) (y : B) → slice_get xs i ≡ Some x → slice_get ys i ≡ Some y
-    → slice_get (zip xs ys) i ≡ Some (x, y)
-both_at [] ys i x y ax ay = absurd (none-some x ax)
-both_at (a ∷ xs) [] i x y ax ay = absurd (none-some y ay)
-both_at (a ∷ xs) (b ∷ ys) zero x y ax ay = ap Some (ap (λ u. (u, b)) (same_Some a x ax) ∙ ap (λ v. (x, v)) (same_Some b y ay))
-both_at (a ∷ xs) (b ∷ ys) (suc i) x y ax ay = both_at xs ys i x y ax ay
+-- ## What is given a value in some slots
+
+take_none : {X : Type 0} (xs : List X) → take 0 xs ≡ []
+take_none [] = refl
+take_none (x ∷ xs) = refl
+
+-- what is given a value in one slot more
+one_slot_more : (r : ℕ) (slots : List Slot) (t : ℕ)
+    → list_any (λ slot. list_any (targets r) slot.actions) (take (suc t) slots)
+    ≡ (list_any (λ slot. list_any (targets r) slot.actions) (take t slots) || list_any (targets r) (actions_of slots t))
+one_slot_more r [] zero = refl
+one_slot_more r [] (suc t) = refl
+one_slot_more r (slot ∷ slots) zero =
+    ap (λ (ss : List Slot). list_any (targets r) slot.actions || list_any (λ slot. list_any (targets r) slot.actions) ss) (take_none slots)
+    ∙ or_none (list_any (targets r) slot.actions)
+  where
+    or_none : (b : Bool) → (b || false) ≡ b
+    or_none true = refl
+    or_none false = refl
+one_slot_more r (slot ∷ slots) (suc t) =
+    ap (λ (b : Bool). list_any (targets r) slot.actions || b) (one_slot_more r slots t)
+    ∙ grouped (list_any (targets r) slot.actions) (list_any (λ slot. list_any (targets r) slot.actions) (take t slots)) (list_any (targets r) (actions_of slots t))
+  where
+    grouped : (x y z : Bool) → (x || (y || z)) ≡ ((x || y) || z)
+    grouped true y z = refl
+    grouped false y z = refl
 
 module _ (c : Case) (s : IsPlainCase c) where
   abbrev chip : Chip
@@ -104,7 +116,7 @@ module _ (c : Case) (s : IsPlainCase c) where
     no_gate =
         let one : net_drivers chip q ≡ 1 = one_driver q low in
         let some : 0 < count_by (is_q q) chip.registers = some_register in
-        unfound (λ gate. is_chip_net q gate.output) chip.gates (omega (arith, one, some))
+        not_found (λ gate. is_chip_net q gate.output) chip.gates (omega (arith, one, some))
 
     -- nor does another register
     only_one : (j : ℕ) (other : EmuRegister) → slice_get chip.registers j ≡ Some other → is_q q other ≡ true → i ≡ j
@@ -155,7 +167,7 @@ module _ (c : Case) (s : IsPlainCase c) where
         go None e = no (sym (ap is_hold e) ∙ h)
         go (Some x) e = ap is_some e
 
-    action_is : (m : MarkState) (x : Action) → action_fits c 0 x ≡ true → action_mark c.design c.results wires inside m x 0 q ≡ given_if (targets i x)
+    action_is : (m : MarkState) (x : Action) → is_there c x ≡ true → action_mark c.design c.results wires inside m x 0 q ≡ given_if (targets i x)
     action_is m (action.Input w j net) h =
         let chip_zero : w.place ≡ 0 = held c s w.place j.place (left _ _ h) in
         let holds : is_hold (slice_get chip.registers j.place) ≡ true = ap (λ (k : ℕ). is_hold (register_at c k j.place)) (sym chip_zero) ∙ left _ _ h in
@@ -166,39 +178,50 @@ module _ (c : Case) (s : IsPlainCase c) where
     action_is m (action.Write w k port) h = absurd (only_inputs c s (action.Write w k port) h refl)
     action_is m (action.Read w k port) h = absurd (only_inputs c s (action.Read w k port) h refl)
 
-    first_is : (m : MarkState) (actions : List Action) → list_all (action_fits c 0) actions ≡ true
+    first_is : (m : MarkState) (actions : List Action) → list_all (is_there c) actions ≡ true
         → first_given (λ a. action_mark c.design c.results wires inside m a 0 q) actions ≡ given_if (list_any (targets i) actions)
     first_is m [] h = refl
     first_is m (x ∷ actions) h =
         ap (λ (o : Option Mark). option_or o (first_given (λ a. action_mark c.design c.results wires inside m a 0 q) actions)) (action_is m x (left _ _ h))
-        ∙ ap (option_or (given_if (targets i x))) (first_is m actions (right (action_fits c 0 x) _ h))
+        ∙ ap (option_or (given_if (targets i x))) (first_is m actions (right (is_there c x) _ h))
         ∙ either (targets i x) (list_any (targets i) actions)
       where
         either : (a b : Bool) → option_or (given_if a) (given_if b) ≡ given_if (a || b)
         either true b = refl
         either false b = refl
 
-    slot_is : (m : MarkState) (actions : List Action) → list_all (action_fits c 0) actions ≡ true
-        → (marks_step c.design c.results wires inside actions m).on 0 q ≡ taken_or (list_any (targets i) actions) (m.on 0 q)
-    slot_is m actions h = ap (λ (o : Option Mark). unwrap_or o (m.on 0 q)) (first_is m actions h) ∙ chosen (list_any (targets i) actions)
-      where
-        chosen : (b : Bool) → unwrap_or (given_if b) (m.on 0 q) ≡ taken_or b (m.on 0 q)
-        chosen true = refl
-        chosen false = refl
+    module _ (slots : List Slot) (all : (t : ℕ) → list_all (is_there c) (actions_of slots t) ≡ true) where
+      abbrev gives_in : Slot → Bool
+      gives_in slot = list_any (targets i) slot.actions
 
-    slots_are : (m : MarkState) (ss : List Slot) → list_all (λ (slot : Slot). list_all (action_fits c 0) slot.actions) ss ≡ true
-        → (marks_after c.design c.results wires inside ss m).on 0 q ≡ taken_or (list_any (λ (slot : Slot). list_any (targets i) slot.actions) ss) (m.on 0 q)
-    slots_are m [] h = refl
-    slots_are m (slot ∷ ss) h =
-        slots_are (marks_step c.design c.results wires inside slot.actions m) ss (right (list_all (action_fits c 0) slot.actions) _ h)
-        ∙ ap (taken_or (list_any (λ (x : Slot). list_any (targets i) x.actions) ss)) (slot_is m slot.actions (left _ _ h))
-        ∙ twice (list_any (λ (x : Slot). list_any (targets i) x.actions) ss) (list_any (targets i) slot.actions)
-      where
-        twice : (a b : Bool) → taken_or a (taken_or b (m.on 0 q)) ≡ taken_or (b || a) (m.on 0 q)
-        twice true true = refl
-        twice true false = refl
-        twice false true = refl
-        twice false false = refl
+      -- each action ends in its own slot
+      ended : (t : ℕ) → ending wires slots t ≡ actions_of slots t
+      ended t = ap (λ (ws : List Wire). ending ws slots t) s.wires ∙ ending_is slots t
+
+      slot_is : (m : MarkState) (t : ℕ) → (marks_step c.design c.results wires inside slots t m).on 0 q ≡ taken_or (list_any (targets i) (actions_of slots t)) (m.on 0 q)
+      slot_is m t =
+          ap (λ (actions : List Action). unwrap_or (first_given (λ a. action_mark c.design c.results wires inside m a 0 q) actions) (m.on 0 q)) (ended t)
+          ∙ ap (λ (o : Option Mark). unwrap_or o (m.on 0 q)) (first_is m (actions_of slots t) (all t))
+          ∙ chosen (list_any (targets i) (actions_of slots t))
+        where
+          chosen : (b : Bool) → unwrap_or (given_if b) (m.on 0 q) ≡ taken_or b (m.on 0 q)
+          chosen true = refl
+          chosen false = refl
+
+      slots_are : (t : ℕ) → (marks_at c.design c.results wires inside slots t).on 0 q
+          ≡ taken_or (list_any gives_in (take t slots)) ((start_marks c.design c.results inside).on 0 q)
+      slots_are zero = ap (λ (ss : List Slot). taken_or (list_any gives_in ss) ((start_marks c.design c.results inside).on 0 q)) (sym (take_none slots))
+      slots_are (suc t) =
+          slot_is (marks_at c.design c.results wires inside slots t) t
+          ∙ ap (taken_or (list_any (targets i) (actions_of slots t))) (slots_are t)
+          ∙ twice (list_any (targets i) (actions_of slots t)) (list_any gives_in (take t slots)) ((start_marks c.design c.results inside).on 0 q)
+          ∙ ap (λ (b : Bool). taken_or b ((start_marks c.design c.results inside).on 0 q)) (sym (one_slot_more i slots t))
+        where
+          twice : (a b : Bool) (m : Mark) → taken_or a (taken_or b m) ≡ taken_or (b || a) m
+          twice true true m = refl
+          twice true false m = refl
+          twice false true m = refl
+          twice false false m = refl
 
     -- ## The rule at the register
 
@@ -229,7 +252,8 @@ module _ (c : Case) (s : IsPlainCase c) where
     module _ (a4 : Meets c A4) (a5 : Meets c A5) (keeps : is_kept c.results 0 q ≡ true) where
       end_is : (end_marks c (λ k. inside) 0).on 0 q ≡ taken_or taken only_before
       end_is =
-          slots_are (start_marks c.design c.results inside) (frame_slots c.results 0) ((a5_tested c s a4).1 a5)
+          slots_are (frame_slots c.results 0) (all_there c s a4 a5) (length (frame_slots c.results 0))
+          ∙ ap (λ (ss : List Slot). taken_or (list_any (gives_in (frame_slots c.results 0) (all_there c s a4 a5)) ss) ((start_marks c.design c.results inside).on 0 q)) (take_past (frame_slots c.results 0) (length (frame_slots c.results 0)) (omega arith))
           ∙ ap (taken_or taken) (start_is keeps)
 
       pub ends_is : ends_after c (λ k. inside) 0 0 register.q ≡ (taken || not (is_inside inside (subject c.results 0 q)))
@@ -257,7 +281,7 @@ module _ (c : Case) (s : IsPlainCase c) where
             go (Some b) e = e ∙ ap Some (sym (ap (λ (o : Option Bool). unwrap_or o false) e) ∙ k)
 
         paired : slice_get (zip chip.registers (chip_map c.results 0).kept) i ≡ Some (register, true)
-        paired = both_at chip.registers (chip_map c.results 0).kept i register true at flag
+        paired = zip_at chip.registers (chip_map c.results 0).kept i register true at flag
 
     pub done_is : Meets c A4 → Meets c A5 → register_ends c (λ k. inside) 0 0 i (Some register) ≡ register_done c i register
     done_is a4 a5 = go kept refl
@@ -323,7 +347,7 @@ module _ (c : Case) (s : IsPlainCase c) where
       where
         from : Meets c A11 → EndsDone c
         from m i register at =
-            true_of (register_done c i register)
+            must (register_done c i register)
             (λ f.
             m (place.EndRegister 0 (record { place = 0 }) (record { place = i }))
             (both _ _ framed (ap (λ (o : Option EmuRegister). not (register_ends c always 0 0 i o)) at ∙ ap not (done_is i register at a4 a5 ∙ f))))

@@ -10,7 +10,9 @@ use Rattle.emu_machine.specs.Origins.{gate_fits, register_fits}
 use Rattle.emu_machine.specs.Acceptance.{Case, A7, fails_test, mapped_memory_fits}
 use Rattle.schedule_check.specs.Verdict.{IsPlainCase, Meets}
 use Rattle.schedule_check.proofs.Chips.{other_chip, plain_chip}
-use Rattle.schedule_check.proofs.Passing.{all_here, all_true, not_both, true_of}
+use Rattle.schedule_check.proofs.Passing.{all_true, not_both}
+use Rattle.facts.proofs.Tests.{must}
+use Rattle.facts.proofs.Places.{all_at}
 
 -- an element at a place fails no test that all pass
 pub none_fails : {X : Type 0} (test : X → Bool) (xs : List X) (k : ℕ) → list_all test xs ≡ true → fails_test test (slice_get xs k) → ⊥
@@ -18,11 +20,11 @@ none_fails {X} test xs k h f = go (slice_get xs k) refl f
   where
     go : (o : Option X) → slice_get xs k ≡ o → fails_test test o → ⊥
     go None e f = f
-    go (Some x) e f = not_both (test x) (all_here test xs k x h e) f
+    go (Some x) e f = not_both (test x) (all_at test xs k x h e) f
 
 pub none_failed : {X : Type 0} (test : X → Bool) (xs : List X) → ((k : ℕ) → fails_test test (slice_get xs k) → ⊥) → list_all test xs ≡ true
 none_failed test xs h =
-    all_true test xs (λ k x at. true_of (test x) (λ f. h k (subst (λ o. fails_test test o) (sym at) f)))
+    all_true test xs (λ k x at. must (test x) (λ f. h k (subst (λ o. fails_test test o) (sym at) f)))
 
 module _ (c : Case) (s : IsPlainCase c) where
   abbrev chip : Chip

@@ -21,27 +21,17 @@ use Rattle.emu_machine.specs.declared.place.Place.TheVariants as place
 use Rattle.emu_machine.specs.Netlist.{chip_at}
 use Rattle.emu_machine.specs.Mapped.{chip_map}
 use Rattle.emu_machine.specs.Acceptance.{Case, A9, fails_test, is_element_mapped, is_register_kept, chip_keeps, output_differs, same_subjects, spot_subject}
-use Rattle.history_law.proofs.Naming.{input_bit_is_input, number_same, same_number}
-use Rattle.history_law.proofs.Lists.{any_at}
+use Rattle.history_law.proofs.Naming.{input_bit_is_input}
+use Rattle.facts.proofs.Tests.{number_same, same_number, no, left, right, not_true, must}
+use Rattle.facts.proofs.Lists.{any_at}
 use Rattle.schedule_check.specs.Verdict.{IsPlainCase, Meets}
 use Rattle.schedule_check.specs.Mapped.{is_marked, keeps, AreKept, IsMarkedAlso, shown}
-use Rattle.schedule_check.proofs.Passing.{all_here, all_true, all_flat, not_both, true_of, both, false_of, take_past}
-use Rattle.marks_law.proofs.Plain.{no, left, right, not_true}
+use Rattle.schedule_check.proofs.Passing.{all_true, all_flat, not_both, both, false_of, take_past}
+use Rattle.facts.proofs.Places.{all_at, any_found}
 
 or_none : (b : Bool) → (b || false) ≡ b
 or_none true = refl
 or_none false = refl
-
-pub any_here : {X : Type 0} (p : X → Bool) (xs : List X) → list_any p xs ≡ true → (k : ℕ) × (x : X) × (slice_get xs k ≡ Some x) × (p x ≡ true)
-any_here p [] h = no h
-any_here {X} p (y ∷ ys) h = go (any_here p ys) (p y) refl
-  where
-    go : (list_any p ys ≡ true → (k : ℕ) × (x : X) × (slice_get ys k ≡ Some x) × (p x ≡ true))
-        → (b : Bool) → p y ≡ b → (k : ℕ) × (x : X) × (slice_get (y ∷ ys) k ≡ Some x) × (p x ≡ true)
-    go deep true e = (0, y, refl, e)
-    go deep false e =
-        let r : (k : ℕ) × (x : X) × (slice_get ys k ≡ Some x) × (p x ≡ true) = deep (sym (ap (λ b. b || list_any p ys) e) ∙ h) in
-        (suc r.0, r.1, r.2, r.3)
 
 -- ## Outputs
 
@@ -76,15 +66,15 @@ module _ (c : Case) (s : IsPlainCase c) where
       ap (λ (chips : List Chip). list_any (λ (k, chip). chip_keeps c.results n k) (enumerate_from 0 chips)) s.results.one
       ∙ or_none (list_any (keeps c n) registers)
 
-  element_mapped : (e : Element) → IsPlainElement c.design e → is_element_mapped c.results e ≡ true
+  element_mapped : (e : Element) → IsPlainElement c.design e → is_element_mapped c.design c.results e ≡ true
   element_mapped (element.Gate op inputs output) h = refl
   element_mapped (element.Flop f) h = absurd h
   element_mapped (element.Latch l) h = absurd h
   element_mapped (element.Memory m) h = absurd h
 
-  elements_mapped : (k : ℕ) (o : Option Element) → slice_get c.design.elements k ≡ o → fails_test (is_element_mapped c.results) o → ⊥
+  elements_mapped : (k : ℕ) (o : Option Element) → slice_get c.design.elements k ≡ o → fails_test (is_element_mapped c.design c.results) o → ⊥
   elements_mapped k None e f = f
-  elements_mapped k (Some el) e f = not_both (is_element_mapped c.results el) (element_mapped el (s.plain.elements k el e)) f
+  elements_mapped k (Some el) e f = not_both (is_element_mapped c.design c.results el) (element_mapped el (s.plain.elements k el e)) f
 
   module _ (table : List Bool) (count : length table ≡ net_count c.design) (kept : AreKept c registers table) where
     marked_low : (n : NetId) → is_marked table n ≡ true → n.place < length table
@@ -100,9 +90,9 @@ module _ (c : Case) (s : IsPlainCase c) where
     input_kept : list_all (is_marked table) (port_bits c.design.inputs) ≡ true → (n : NetId) → includes (port_bits c.design.inputs) n.place ≡ true
         → is_register_kept c.results n ≡ true
     input_kept all n h =
-        let r = any_here (is_net n.place) (port_bits c.design.inputs) h in
+        let r = any_found (is_net n.place) (port_bits c.design.inputs) h in
         let same : r.1.place ≡ n.place = number_same r.1.place n.place r.3 in
-        let marked : is_marked table n ≡ true = ap (λ (k : ℕ). get_or table k false) (sym same) ∙ all_here (is_marked table) (port_bits c.design.inputs) r.0 r.1 all r.2 in
+        let marked : is_marked table n ≡ true = ap (λ (k : ℕ). get_or table k false) (sym same) ∙ all_at (is_marked table) (port_bits c.design.inputs) r.0 r.1 all r.2 in
         kept_is n ∙ sym (kept n (marked_low n marked)) ∙ marked
 
     pub meets_a9 : list_all (λ (port : Port). list_all (is_marked table) port.nets) c.design.inputs ≡ true
@@ -122,7 +112,7 @@ module _ (c : Case) (s : IsPlainCase c) where
         ∙ all_true (is_marked table) (port_bits c.design.inputs)
         (λ k n at.
         let h : includes (port_bits c.design.inputs) n.place ≡ true = any_at (is_net n.place) (port_bits c.design.inputs) k n at (same_number n.place n.place refl) in
-        kept n (input_low n.place h) ∙ sym (kept_is n) ∙ true_of (is_register_kept c.results n) (λ f. m (place.Input n) (both _ _ h (ap not f))))
+        kept n (input_low n.place h) ∙ sym (kept_is n) ∙ must (is_register_kept c.results n) (λ f. m (place.Input n) (both _ _ h (ap not f))))
 
     pub outputs_of_a9 : Meets c A9 → shown c.results c.results.map.outputs (port_bits c.design.outputs) ≡ true
     outputs_of_a9 m = all_shown c.results c.results.map.outputs (port_bits c.design.outputs) (λ k. false_of _ (λ f. m (place.Output k) f))

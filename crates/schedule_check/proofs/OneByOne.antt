@@ -1,5 +1,5 @@
 -- The rules in the order of their numbers, and what the verdicts come to.
-use Rattle.std.proofs.Common.{◌≡◌, ℕ, zero, suc, ◌+◌, ◌<◌, ◌≤◌, arith, Bool, true, false, refl, subst, sym, ap, ◌∙◌}
+use Rattle.std.proofs.Common.{◌≡◌, ℕ, ◌+◌, ◌<◌, ◌≤◌, arith, Bool, true, false, refl, subst, sym, ap, ◌∙◌}
 use Rattle.std.specs.Prelude.{IsTrue, ◌↔◌, ◌==◌, length, Option, Some, None, is_some}
 use Rattle.emu_machine.specs.Acceptance.{Case, Rule, A1, A2, A3, A4, A5, A6, A7, A8, A9, A10, A11, A12, rule_number, IsAccepted}
 use Rattle.graph_rank.specs.Ranks.{Ranking}
@@ -8,44 +8,9 @@ use Rattle.schedule_check.specs.declared.verdict.Rule.{Rule as Told}
 use Rattle.schedule_check.specs.declared.verdict.Rule.TheVariants as declared
 use Rattle.schedule_check.proofs.Weighing.{meets_a1}
 use Rattle.schedule_check.proofs.Acting.{meets_a10}
-use Rattle.marks_law.proofs.Plain.{no}
+use Rattle.facts.proofs.Tests.{no}
 use Rattle.schedule_check.specs.Verdict.{IsPlainCase, Meets, MeetsBefore, FailsFirst, inside_all, named}
 use Rattle.schedule_check.proofs.Reaching.{influences}
-use Rattle.schedule_check.proofs.Passing.{split_last}
-
--- the rule of a number
-rule_of : ℕ → Rule
-rule_of zero = A1
-rule_of (suc zero) = A1
-rule_of (suc (suc zero)) = A2
-rule_of (suc (suc (suc zero))) = A3
-rule_of (suc (suc (suc (suc zero)))) = A4
-rule_of (suc (suc (suc (suc (suc zero))))) = A5
-rule_of (suc (suc (suc (suc (suc (suc zero)))))) = A6
-rule_of (suc (suc (suc (suc (suc (suc (suc zero))))))) = A7
-rule_of (suc (suc (suc (suc (suc (suc (suc (suc zero)))))))) = A8
-rule_of (suc (suc (suc (suc (suc (suc (suc (suc (suc zero))))))))) = A9
-rule_of (suc (suc (suc (suc (suc (suc (suc (suc (suc (suc zero)))))))))) = A10
-rule_of (suc (suc (suc (suc (suc (suc (suc (suc (suc (suc (suc zero))))))))))) = A11
-rule_of (suc (suc (suc (suc (suc (suc (suc (suc (suc (suc (suc (suc n)))))))))))) = A12
-
-own_number : (r : Rule) → rule_of (rule_number r) ≡ r
-unfolding rule_of
-own_number A1 = refl
-own_number A2 = refl
-own_number A3 = refl
-own_number A4 = refl
-own_number A5 = refl
-own_number A6 = refl
-own_number A7 = refl
-own_number A8 = refl
-own_number A9 = refl
-own_number A10 = refl
-own_number A11 = refl
-own_number A12 = refl
-
-same_rule : (a b : Rule) → rule_number a ≡ rule_number b → a ≡ b
-same_rule a b e = sym (own_number a) ∙ ap rule_of e ∙ own_number b
 
 last_number : (r : Rule) → rule_number r < 13
 last_number A1 = omega arith
@@ -62,13 +27,6 @@ last_number A11 = omega arith
 last_number A12 = omega arith
 
 module _ (c : Case) (s : IsPlainCase c) where
-  -- one rule more
-  pub next_rule : (k : ℕ) (rule : Rule) → rule_number rule ≡ k + 1 → ((other : Rule) → rule_number other < k + 1 → Meets c other) → Meets c rule
-      → (other : Rule) → rule_number other < k + 1 + 1 → Meets c other
-  next_rule k rule e before m other less =
-      split_last (rule_number other) (k + 1) less (before other)
-      (λ same. subst (λ (r : Rule). Meets c r) (sym (same_rule other rule (same ∙ sym e))) m)
-
   pub accepts : (k : ℕ) → 12 ≤ k → ((other : Rule) → rule_number other < k + 1 → Meets c other) → IsAccepted c
   accepts k end before =
       record {

@@ -1,12 +1,12 @@
 -- Tests that all elements of a list pass, and small facts on tests and options.
 use Rattle.std.proofs.Common.{◌≡◌, ℕ, zero, suc, ◌+◌, ◌<◌, ◌≤◌, arith, Bool, true, false, List, [], ◌∷◌, length, get_or, drop, take, refl, subst, sym, ap, ◌∙◌}
-use Rattle.std.specs.Prelude.{◌&&◌, ◌↔◌, Option, Some, None, slice_get, flat_map, sum_by, nat_lt}
+use Rattle.std.specs.Prelude.{◌&&◌, ◌↔◌, Some, slice_get, flat_map, sum_by, nat_lt}
 use Rattle.std.specs.List.{list_all}
 use Rattle.std.proofs.lemmas.Option.{none-some, same_Some, slice_get_read}
 use Rattle.std.proofs.lemmas.List.Sums.{sum_by-drop_more}
 use Rattle.std.proofs.lemmas.Bool.Decides.{nat_tests}
 use Rattle.std.proofs.lemmas.List.Folds.{list_all-append}
-use Rattle.marks_law.proofs.Plain.{no, left, right}
+use Rattle.facts.proofs.Tests.{no}
 
 pub both : (a b : Bool) → a ≡ true → b ≡ true → (a && b) ≡ true
 both true b e f = f
@@ -16,39 +16,13 @@ pub false_of : (b : Bool) → (b ≡ true → ⊥) → b ≡ false
 false_of true h = absurd (h refl)
 false_of false h = refl
 
-pub true_of : (b : Bool) → (b ≡ false → ⊥) → b ≡ true
-true_of true h = refl
-true_of false h = absurd (h refl)
-
 pub not_both : (b : Bool) → b ≡ true → b ≡ false → ⊥
 not_both b e f = no (sym f ∙ e)
 
--- an element at a place, or none there
-pub optional : {X : Type 0} (P : Option X → Type 0) (o : Option X) → (o ≡ None → P None) → ((x : X) → o ≡ Some x → P (Some x)) → P o
-optional P None f g = f refl
-optional P (Some x) f g = g x refl
-
 module _ {X : Type 0} (p : X → Bool) where
-  pub all_here : (xs : List X) (k : ℕ) (x : X) → list_all p xs ≡ true → slice_get xs k ≡ Some x → p x ≡ true
-  all_here [] k x h at = absurd (none-some x at)
-  all_here (y ∷ ys) zero x h at = ap p (sym (same_Some y x at)) ∙ left _ _ h
-  all_here (y ∷ ys) (suc k) x h at = all_here ys k x (right _ _ h) at
-
   pub all_true : (xs : List X) → ((k : ℕ) (x : X) → slice_get xs k ≡ Some x → p x ≡ true) → list_all p xs ≡ true
   all_true [] f = refl
   all_true (y ∷ ys) f = both (p y) (list_all p ys) (f 0 y refl) (all_true ys (λ k x at. f (suc k) x at))
-
-  -- a test that all pass, or one that fails
-  pub one_fails : (xs : List X) → list_all p xs ≡ false → (k : ℕ) × (x : X) × (slice_get xs k ≡ Some x) × (p x ≡ false)
-  one_fails [] h = no (sym h)
-  one_fails (y ∷ ys) h = go (one_fails ys) (p y) refl
-    where
-      go : (list_all p ys ≡ false → (k : ℕ) × (x : X) × (slice_get ys k ≡ Some x) × (p x ≡ false))
-          → (b : Bool) → p y ≡ b → (k : ℕ) × (x : X) × (slice_get (y ∷ ys) k ≡ Some x) × (p x ≡ false)
-      go deep true e =
-          let r : (k : ℕ) × (x : X) × (slice_get ys k ≡ Some x) × (p x ≡ false) = deep (sym (ap (λ b. b && list_all p ys) e) ∙ h) in
-          (suc r.0, r.1, r.2, r.3)
-      go deep false e = (0, y, refl, e)
 
 module _ {X Y : Type 0} (p : Y → Bool) (f : X → List Y) where
   pub all_flat : (xs : List X) → list_all p (flat_map f xs) ≡ list_all (λ x. list_all p (f x)) xs

@@ -16,13 +16,13 @@ use Rattle.design_core.specs.Dependency.{dependencies, driver_needs, needs_at, w
 use Rattle.design_core.specs.Influence.{Group, IsReached, seed, over, IsInfluence}
 use Rattle.design_core.specs.Plain.{IsPlain}
 use Rattle.emu_machine.specs.Acceptance.{Case, Influences}
-use Rattle.history_law.proofs.Naming.{input_bit_is_input, input_is_input_bit, number_same, same_number}
-use Rattle.history_law.proofs.Lists.{any_at}
-use Rattle.marks_law.proofs.Plain.{no}
+use Rattle.history_law.proofs.Naming.{input_bit_is_input, input_is_input_bit}
+use Rattle.facts.proofs.Tests.{number_same, same_number, no}
+use Rattle.facts.proofs.Lists.{any_at}
 use Rattle.schedule_check.specs.Verdict.{IsPlainCase, moves, inside_all, all_inputs}
-use Rattle.schedule_check.proofs.Chips.{contained, of_contained, groups_are}
+use Rattle.schedule_check.proofs.Chips.{groups_are}
 use Rattle.schedule_check.proofs.Driven.{gate_at, GateAt, no_read, far_driver}
-use Rattle.schedule_check.proofs.Keeping.{any_here}
+use Rattle.facts.proofs.Places.{any_found, at_contains, contains_at}
 
 none_contained : {X : Type 0} (y : X) → Contains [] y → ⊥
 none_contained y c = let low : c.0 < 0 = c.1 in omega arith
@@ -36,9 +36,9 @@ module _ (p : Parts) (d : IsDesign p) (plain : IsPlain p) where
 
   input_seed : (n : NetId) → driver p n.place ≡ Input → IsReached p seeds (Net n)
   input_seed n e =
-      let r = any_here (is_net n.place) seeds (input_is_input_bit p n.place e) in
+      let r = any_found (is_net n.place) seeds (input_is_input_bit p n.place e) in
       let same : r.1 ≡ n = same_net r.1 n (number_same r.1.place n.place r.3) in
-      seed n (contained seeds r.0 n (r.2 ∙ ap Some same))
+      seed n (contains_at seeds r.0 n (r.2 ∙ ap Some same))
 
   moved_input : (n : NetId) (k : ElemId) (g : GateAt p n.place k) → moves (driver p g.input.place) ≡ true
   moved_input n k g = go (driver p g.input.place) refl
@@ -63,7 +63,7 @@ module _ (p : Parts) (d : IsDesign p) (plain : IsPlain p) where
       go (Elem k) e =
           let g : GateAt p n.place k = gate_at p plain n.place k e in
           let needed : Contains (dependencies p (Net n)) (Net g.input) =
-          subst (λ (ds : List NodeId). Contains ds (Net g.input)) (sym (needs_input n k g e)) (contained (Net g.input ∷ []) 0 (Net g.input) refl) in
+          subst (λ (ds : List NodeId). Contains ds (Net g.input)) (sym (needs_input n k g e)) (contains_at (Net g.input ∷ []) 0 (Net g.input) refl) in
           over (Net n) (Net g.input) needed (deeper (Net g.input) needed (moved_input n k g))
       go (Read m r b) e = absurd (no_read p plain n.place m r b e)
 
@@ -82,7 +82,7 @@ module _ (p : Parts) (d : IsDesign p) (plain : IsPlain p) where
 
   seed_moves : (n : NetId) → Contains seeds n → moves (driver p n.place) ≡ true
   seed_moves n c =
-      let at : (k : ℕ) × (slice_get seeds k ≡ Some n) = of_contained seeds n c in
+      let at : (k : ℕ) × (slice_get seeds k ≡ Some n) = at_contains seeds n c in
       ap moves (input_bit_is_input p n.place d (any_at (is_net n.place) seeds at.0 n at.1 (same_number n.place n.place refl))).1
 
   needs_move : (a b : NodeId) → Contains (dependencies p a) b → inside_all p a ≡ true

@@ -15,12 +15,13 @@ use Rattle.emu_machine.specs.declared.place.Place.TheVariants as place
 use Rattle.emu_machine.specs.Netlist.{chip_at, is_chip_net, net_drivers, LeadsTo, next, through as lead_through, IsOnCycle}
 use Rattle.emu_machine.specs.Plain.{IsPlainGate}
 use Rattle.emu_machine.specs.Acceptance.{Case, A2}
-use Rattle.history_law.proofs.Naming.{number_same, same_number}
+use Rattle.facts.proofs.Tests.{number_same, same_number}
 use Rattle.schedule_check.specs.Cycles.{none, gate_named, IsTableOf, gate_row, AreGateRows}
 use Rattle.schedule_check.specs.Verdict.{IsPlainCase, Meets}
-use Rattle.schedule_check.proofs.Chips.{other_chip, gates_plain, contained, of_contained}
+use Rattle.schedule_check.proofs.Chips.{other_chip, gates_plain}
 use Rattle.schedule_check.proofs.Ending.{two_places}
 use Rattle.schedule_check.proofs.Passing.{not_both, false_of, split_last}
+use Rattle.facts.proofs.Places.{at_contains, contains_at}
 
 -- ## There are no more gates than nets
 
@@ -191,14 +192,14 @@ module _ (c : Case) (s : IsPlainCase c) where
         ∙ append_nil (named_list (gates_plain c s k gate at).input.place)
 
     only : (x y : ℕ) → Contains (x ∷ []) y → x ≡ y
-    only x y h = let at : (k : ℕ) × (slice_get (x ∷ []) k ≡ Some y) = of_contained (x ∷ []) y h in go at.0 at.1
+    only x y h = let at : (k : ℕ) × (slice_get (x ∷ []) k ≡ Some y) = at_contains (x ∷ []) y h in go at.0 at.1
       where
         go : (k : ℕ) → slice_get (x ∷ []) k ≡ Some y → x ≡ y
         go zero e = same_Some x y e
         go (suc k) e = absurd (none-some y e)
 
     nothing : (y : ℕ) → Contains [] y → ⊥
-    nothing y h = let at : (k : ℕ) × (slice_get [] k ≡ Some y) = of_contained [] y h in none-some y at.1
+    nothing y h = let at : (k : ℕ) × (slice_get [] k ≡ Some y) = at_contains [] y h in none-some y at.1
 
     listed : (n d : ℕ) → Contains (named_list n) d → (gate_named table n ≢ none) × (gate_named table n ≡ d)
     listed n d h = go (gate_named table n == none) refl
@@ -228,10 +229,10 @@ module _ (c : Case) (s : IsPlainCase c) where
             let g : (from : EmuGate) × (slice_get chip.gates (gate_named table p.input.place) ≡ Some from) × (from.output.place ≡ p.input.place) = (are.1.named p.input.place l.0).1 in
             next d k g.0 gate (ap (slice_get chip.gates) (sym l.1) ∙ g.1) e
             (subst (λ (ins : List ChipNetId). Contains ins g.0.output) (sym p.inputs)
-            (contained (p.input ∷ []) 0 g.0.output (ap Some (sym (same_id g.0.output p.input g.2)))))
+            (contains_at (p.input ∷ []) 0 g.0.output (ap Some (sym (same_id g.0.output p.input g.2)))))
 
     only_id : (x y : ChipNetId) → Contains (x ∷ []) y → x ≡ y
-    only_id x y h = let at : (k : ℕ) × (slice_get (x ∷ []) k ≡ Some y) = of_contained (x ∷ []) y h in go at.0 at.1
+    only_id x y h = let at : (k : ℕ) × (slice_get (x ∷ []) k ≡ Some y) = at_contains (x ∷ []) y h in go at.0 at.1
       where
         go : (k : ℕ) → slice_get (x ∷ []) k ≡ Some y → x ≡ y
         go zero e = same_Some x y e
@@ -250,7 +251,7 @@ module _ (c : Case) (s : IsPlainCase c) where
         false_of (gate_named table p.input.place == none) (λ e. let v : gate_named table p.input.place ≡ none = number_same _ none e in omega (arith, value, v, low, few)) in
         let list : row rows k ≡ j ∷ [] =
         plain_row k to ak ∙ ap (λ (b : Bool). if b then [] else gate_named table p.input.place ∷ []) some ∙ ap (λ (n : ℕ). n ∷ []) value in
-        subst (λ (r : List ℕ). Contains r j) (sym list) (contained (j ∷ []) 0 j refl)
+        subst (λ (r : List ℕ). Contains r j) (sym list) (contains_at (j ∷ []) 0 j refl)
 
     pub in_range : InRange rows
     in_range n d low h =

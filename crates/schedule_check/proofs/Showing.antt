@@ -22,18 +22,18 @@ use Rattle.emu_machine.specs.Marks.{Mark, no_mark, only_before, copied_mark}
 use Rattle.emu_machine.specs.Plain.{IsPlainGate}
 use Rattle.emu_machine.specs.Origins.{gate_fits}
 use Rattle.emu_machine.specs.Acceptance.{Case, A7, A12, shows_before, plain_gate_mark}
-use Rattle.history_law.proofs.Naming.{number_same, same_number}
-use Rattle.marks_law.proofs.Plain.{found}
+use Rattle.facts.proofs.Tests.{number_same, same_number, found}
 use Rattle.schedule_check.specs.Cycles.{IsGateOrder}
 use Rattle.schedule_check.specs.Ends.{AreMarkedAlso}
 use Rattle.schedule_check.specs.Outputs.{shows, IsPassed, ArePassed, ArePassedTo}
 use Rattle.schedule_check.specs.Verdict.{IsPlainCase, Meets}
-use Rattle.schedule_check.proofs.Chips.{other_chip, plain_chip, gates_plain, contained, of_contained}
+use Rattle.schedule_check.proofs.Chips.{other_chip, plain_chip, gates_plain}
 use Rattle.schedule_check.proofs.Copying.{copy_marked}
 use Rattle.schedule_check.proofs.Ending.{unpassed}
 use Rattle.schedule_check.proofs.Fitting.{gates_of_a7, none_fails, none_failed}
 use Rattle.schedule_check.proofs.Rounds.{row_has, row_count, same_gate}
-use Rattle.schedule_check.proofs.Passing.{all_here, not_both, split_last, take_past}
+use Rattle.schedule_check.proofs.Passing.{not_both, split_last, take_past}
+use Rattle.facts.proofs.Places.{all_at, at_contains, contains_at}
 
 unfound : {X : Type 0} (p : X → Bool) (xs : List X) (k : ℕ) (x : X) → find p xs ≡ None → slice_get xs k ≡ Some x → p x ≡ true → ⊥
 unfound p [] k x e at h = none-some x at
@@ -75,12 +75,12 @@ module _ (c : Case) (s : IsPlainCase c) where
 
     reads : (to : EmuGate) (i : ChipNetId) (from : EmuGate) → to.inputs ≡ i ∷ [] → from.output.place ≡ i.place → Contains to.inputs from.output
     reads to i from e same =
-        subst (λ (ins : List ChipNetId). Contains ins from.output) (sym e) (contained (i ∷ []) 0 from.output (ap Some (sym (same_id from.output i same))))
+        subst (λ (ins : List ChipNetId). Contains ins from.output) (sym e) (contains_at (i ∷ []) 0 from.output (ap Some (sym (same_id from.output i same))))
 
     place_of : (k : ℕ) → k < length chip.gates → (j : ℕ) × (j < length nodes) × (slice_index nodes j ≡ k)
     place_of k low =
         let row_low : k < length o.rows = subst (λ (n : ℕ). k < n) (sym (row_count c s o.rows o.are)) low in
-        let at : (j : ℕ) × (slice_get nodes j ≡ Some k) = of_contained nodes k (o.ranking.all k row_low) in
+        let at : (j : ℕ) × (slice_get nodes j ≡ Some k) = at_contains nodes k (o.ranking.all k row_low) in
         (at.0, slice_get_within nodes at.0 k at.1, get_or_from_slice_get nodes at.0 k 0 at.1)
 
     -- ## One gate after the other
@@ -214,7 +214,7 @@ module _ (c : Case) (s : IsPlainCase c) where
           ap (λ (x : Option EmuGate). (option_map_or (λ g. combine g (map (λ i. on_net chip source combine room i.place) g.inputs)) x (source n)).before) e
           ∙ ap (λ (ins : List ChipNetId). (combine gate (map (λ i. on_net chip source combine room i.place) ins)).before) plain.inputs
           ∙ ap (λ (m : Mark). m.before)
-          (copy_marked c s gate plain (all_here (gate_fits c.design c.results 0) chip.gates at.0 gate (gates_of_a7 c s a7) at.1) (on_net chip source combine room plain.input.place ∷ []))
+          (copy_marked c s gate plain (all_at (gate_fits c.design c.results 0) chip.gates at.0 gate (gates_of_a7 c s a7) at.1) (on_net chip source combine room plain.input.place ∷ []))
           ∙ both_before (on_net chip source combine room plain.input.place)
           ∙ deep
           ∙ sym (p.gates at.0 gate plain.input at.1 plain.inputs)

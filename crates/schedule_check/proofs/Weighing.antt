@@ -10,9 +10,8 @@ use Rattle.emu_machine.specs.Netlist.{chip_at}
 use Rattle.emu_machine.specs.Acceptance.{Case, A1, A3, A4, memory_weight, chip_weight, frame_differs, frame_fits, FailsA3, FailsA4}
 use Rattle.schedule_check.specs.Verdict.{IsPlainCase, Meets, all_inputs, gate_weights}
 use Rattle.schedule_check.proofs.Chips.{plain_chip, groups_are}
-use Rattle.schedule_check.proofs.Passing.{true_of}
 use Rattle.std.proofs.lemmas.Bool.Decides.{nat_tests}
-use Rattle.marks_law.proofs.Plain.{no}
+use Rattle.facts.proofs.Tests.{no, must}
 
 module _ (c : Case) (s : IsPlainCase c) where
   one_chip : length c.results.net ≡ 1
@@ -101,7 +100,7 @@ module _ (c : Case) (s : IsPlainCase c) where
           record {
             frame = frame;
             one = e;
-            fits = true_of (frame_fits c frame (all_inputs c.design)) (λ f. m (place.Frame 0) (ungrouped 0 (subst (λ (fs : List Frame). Differs fs 0) (sym e) (ap not f))));
+            fits = must (frame_fits c frame (all_inputs c.design)) (λ f. m (place.Frame 0) (ungrouped 0 (subst (λ (fs : List Frame). Differs fs 0) (sym e) (ap not f))));
           }
       go (frame ∷ (other ∷ more)) e =
           absurd (m (place.Frame 1) (ungrouped 1 (subst (λ (fs : List Frame). Differs fs 1) (sym e) refl)))

@@ -2,9 +2,9 @@
 
 ghost use Rattle.std.specs.Prelude.{◌↔◌, ◌≡◌, IsTrue, Some};
 ghost use Rattle.std.specs.List.{list_all};
-ghost use Rattle.emu_machine.specs.Acceptance.{A5, A8, action_fits, is_hold, keeps_subject, register_at, register_subject, same_subjects};
+ghost use Rattle.emu_machine.specs.Acceptance.{A5, A8, is_hold, keeps_subject, register_at, register_subject, same_subjects};
 ghost use Rattle.emu_machine.specs.declared.map.Subject.TheVariants.{Net};
-ghost use Rattle.schedule_check.specs.Actions.{passes, slots_pass};
+ghost use Rattle.schedule_check.specs.Actions.{is_there, passes, slots_pass};
 ghost use Rattle.schedule_check.specs.Verdict.{Meets, MeetsBefore};
 
 use crate::plain_case::PlainCase;
@@ -73,7 +73,7 @@ fn is_passed(case: &PlainCase, test: Test, action: Action) -> bool
 
 /// An `input` names a register of the chip and an input bit. What other actions name is not there.
 fn is_there(case: &PlainCase, action: Action) -> bool
-    ensures { result ≡ action_fits case.now 0 action }
+    ensures { result ≡ is_there case.now action }
 {
     case.stands();
     match action {

@@ -1,5 +1,5 @@
 use Rattle.std.proofs.Common.{rules}
-use Rattle.emu_app.proofs.Circles.{next_text}
+use Rattle.emu_app.proofs.CycleNodes.{next_text}
 use Rattle.emu_app.proofs.ranking.node_texts.Goals as goal
 
 pub nodes-preserved : goal.nodes-preserved

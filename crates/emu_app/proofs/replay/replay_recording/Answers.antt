@@ -10,23 +10,19 @@ use Rattle.cycle_sim.specs.Tables.{state}
 use Rattle.event_replay.specs.Runs.{machine_trace, ReplayMeans}
 use Rattle.emu_app.specs.Reading.{case_of}
 use Rattle.emu_app.specs.Runs.{IsMachineTrace, NoAnswer}
-use Rattle.emu_app.proofs.Replaying.{frame_there, is_judged, loaded_trace, run_stopped, run_written, spots_there}
+use Rattle.emu_app.proofs.Replaying.{can_load, can_run, frame_there, loaded_trace, run_stopped, run_written, spots_there}
 use Rattle.emu_app.proofs.replay.replay_recording.Goals as goal
 
 pub load-requires-clause-mapped : goal.load-requires-clause-mapped
 load-requires-clause-mapped g c =
-    let p : Parts = c.args.ranked.now.design in
-    let design : IsDesign p = subst (λ (q : Parts). IsDesign q) c.design-design.ensures c.stands.ensures.design in
-    c.judged_can_load.ensures (case_of p c.args.chip c.args.results.now)
-    (is_judged p c.args.chip c.args.results.now c.requires.fit design c.requires.netlist c.requires.mapped c.requires.results)
+    can_load c.judged_can_load.ensures c.args.ranked.now.design c.args.chip c.args.results.now c.requires.fit c.requires.mapped c.requires.results
 
 pub open-requires-clause-runs : goal.open-requires-clause-runs
 open-requires-clause-runs g c =
     let p : Parts = c.args.ranked.now.design in
     let design : IsDesign p = subst (λ (q : Parts). IsDesign q) c.design-design.ensures c.stands.ensures.design in
-    subst (λ (nets : ℕ). CanRun c.args.results.now nets) (sym c.in-Ok.ensures.outside)
-    (c.judged_can_run.ensures (case_of p c.args.chip c.args.results.now)
-    (is_judged p c.args.chip c.args.results.now c.requires.fit design c.requires.netlist c.requires.mapped c.requires.results))
+    subst (λ (nets : ℕ). CanRun c.args.results.now [] nets) (sym c.in-Ok.ensures.outside)
+    (can_run c.judged_can_run.ensures p c.args.chip c.args.results.now c.requires.fit design c.requires.netlist c.requires.results)
 
 pub replay_lines-requires-clause-frames : goal.replay_lines-requires-clause-frames
 replay_lines-requires-clause-frames g c =
@@ -48,12 +44,13 @@ returns-in-Ok-replay_lines g c =
     let y : State = state c.replay_lines.new.machine in
     let trace : IsMachineTrace (case_of p c.args.chip c.args.results.now) c.args.recording (machine_trace p c.args.results.now (run_of c.args.results.now [] x c.args.recording.events)) =
     loaded_trace c.traces_agree.ensures c.loaded_trace_is_one.ensures c.one_history.ensures c.openings_fit.ensures c.input_is_input_bit.ensures p c.args.chip c.args.results.now c.args.recording x _
-    c.requires.fit c.requires.results design c.stands-2.ensures.ranked c.requires.mapped c.requires.netlist c.requires.bits (ap state c.in-Ok-open.ensures) c.in-Ok.ensures.loaded c.in-Ok.ensures.free in
+    c.requires.fit c.requires.results design c.stands-2.ensures.ranked c.requires.mapped c.requires.netlist c.requires.bits c.in-Ok-open.ensures.state c.in-Ok.ensures.loaded c.in-Ok.ensures.free in
     run_written (IsMachineTrace (case_of p c.args.chip c.args.results.now) c.args.recording) p c.args.results.now c.args.recording.events x y
     (g.O.Sink.written c.args.out.now) (g.O.Sink.written c.replay_lines.new.out) (g.O.Sink.faults c.args.out.now) (g.O.Sink.faults c.replay_lines.new.out)
     trace (Unit {0}) c.in-Ok-replay_lines.field-0
-    (subst (λ (q : Parts). (wires : List Wire) → ReplayMeans q c.args.results.now wires c.args.recording.events x y (g.O.Sink.written c.args.out.now) (g.O.Sink.written c.replay_lines.new.out) (g.O.Sink.faults c.args.out.now) (g.O.Sink.faults c.replay_lines.new.out) (Ok c.in-Ok-replay_lines.field-0))
-    c.design-design.ensures c.in-Ok-replay_lines.ensures.means)
+    (subst (λ (q : Parts). ReplayMeans q c.args.results.now [] c.args.recording.events x y (g.O.Sink.written c.args.out.now) (g.O.Sink.written c.replay_lines.new.out) (g.O.Sink.faults c.args.out.now) (g.O.Sink.faults c.replay_lines.new.out) (Ok c.in-Ok-replay_lines.field-0))
+    c.design-design.ensures (subst (λ (wires : List Wire). ReplayMeans c.design-design.result.now c.args.results.now wires c.args.recording.events x y (g.O.Sink.written c.args.out.now) (g.O.Sink.written c.replay_lines.new.out) (g.O.Sink.faults c.args.out.now) (g.O.Sink.faults c.replay_lines.new.out) (Ok c.in-Ok-replay_lines.field-0))
+    c.in-Ok-open.ensures.wires c.in-Ok-replay_lines.ensures.means))
 
 pub returns : goal.returns
 returns g c =
@@ -63,9 +60,10 @@ returns g c =
     let y : State = state c.replay_lines.new.machine in
     let trace : IsMachineTrace (case_of p c.args.chip c.args.results.now) c.args.recording (machine_trace p c.args.results.now (run_of c.args.results.now [] x c.args.recording.events)) =
     loaded_trace c.traces_agree.ensures c.loaded_trace_is_one.ensures c.one_history.ensures c.openings_fit.ensures c.input_is_input_bit.ensures p c.args.chip c.args.results.now c.args.recording x _
-    c.requires.fit c.requires.results design c.stands-2.ensures.ranked c.requires.mapped c.requires.netlist c.requires.bits (ap state c.in-Ok-open.ensures) c.in-Ok.ensures.loaded c.in-Ok.ensures.free in
+    c.requires.fit c.requires.results design c.stands-2.ensures.ranked c.requires.mapped c.requires.netlist c.requires.bits c.in-Ok-open.ensures.state c.in-Ok.ensures.loaded c.in-Ok.ensures.free in
     run_stopped (IsMachineTrace (case_of p c.args.chip c.args.results.now) c.args.recording) p c.args.results.now c.args.recording.events x y
     (g.O.Sink.written c.args.out.now) (g.O.Sink.written c.replay_lines.new.out) (g.O.Sink.faults c.args.out.now) (g.O.Sink.faults c.replay_lines.new.out)
     trace (Unit {0}) NoAnswer c.in-Err.fault c.broken_traces.ensures
-    (subst (λ (q : Parts). (wires : List Wire) → ReplayMeans {X = Unit {0}} q c.args.results.now wires c.args.recording.events x y (g.O.Sink.written c.args.out.now) (g.O.Sink.written c.replay_lines.new.out) (g.O.Sink.faults c.args.out.now) (g.O.Sink.faults c.replay_lines.new.out) (Err c.in-Err.fault))
-    c.design-design.ensures c.in-Err.ensures.means)
+    (subst (λ (q : Parts). ReplayMeans {X = Unit {0}} q c.args.results.now [] c.args.recording.events x y (g.O.Sink.written c.args.out.now) (g.O.Sink.written c.replay_lines.new.out) (g.O.Sink.faults c.args.out.now) (g.O.Sink.faults c.replay_lines.new.out) (Err c.in-Err.fault))
+    c.design-design.ensures (subst (λ (wires : List Wire). ReplayMeans {X = Unit {0}} c.design-design.result.now c.args.results.now wires c.args.recording.events x y (g.O.Sink.written c.args.out.now) (g.O.Sink.written c.replay_lines.new.out) (g.O.Sink.faults c.args.out.now) (g.O.Sink.faults c.replay_lines.new.out) (Err c.in-Err.fault))
+    c.in-Ok-open.ensures.wires c.in-Err.ensures.means))

@@ -3,7 +3,7 @@ use Rattle.std.proofs.Common.{◌≡◌, ◌∙◌, ◌++◌, ◌∷◌, [], sym
 use Rattle.std.specs.Prelude.{OnOk, slice_get, Some, flat_map, ◌==◌}
 use Rattle.id_arena.specs.declared.keys.ChipNetId.{ChipNetId}
 use Rattle.emu_machine.specs.declared.netlist.EmuGate.{EmuGate}
-use Rattle.history_law.proofs.Naming.{number_same, same_number}
+use Rattle.facts.proofs.Tests.{number_same, same_number}
 use Rattle.schedule_check.specs.Cycles.{gate_row, gate_named, none}
 use Rattle.schedule_check.proofs.Passing.{false_of}
 use Rattle.schedule_check.proofs.Weighing.{one_element}

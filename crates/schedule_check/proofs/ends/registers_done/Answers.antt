@@ -4,7 +4,7 @@ use Rattle.std.specs.Prelude.{slice_get}
 use Rattle.std.proofs.lemmas.Option.{slice_get-get_or, slice_get_within, same_Some}
 use Rattle.emu_machine.specs.declared.netlist.EmuRegister.{EmuRegister}
 use Rattle.emu_machine.specs.Netlist.{chip_at}
-use Rattle.marks_law.proofs.Plain.{no}
+use Rattle.facts.proofs.Tests.{no}
 use Rattle.schedule_check.specs.Ends.{register_done}
 use Rattle.schedule_check.proofs.Chips.{entry_fits}
 use Rattle.schedule_check.proofs.Ending.{test_is}

@@ -1,6 +1,6 @@
 -- One slot after the other.
 use Rattle.std.proofs.Common.{◌+◌, ◌∙◌, sym, ap, subst, refl, ℕ, List}
-use Rattle.marks_law.proofs.Plain.{no}
+use Rattle.facts.proofs.Tests.{no}
 use Rattle.emu_machine.specs.declared.schedule.Action.{Action}
 use Rattle.emu_machine.specs.declared.schedule.Slot.{Slot}
 use Rattle.schedule_check.specs.Uses.{AreUsedOnce, IsUsedOnce}

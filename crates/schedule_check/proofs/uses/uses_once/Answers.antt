@@ -1,7 +1,7 @@
 -- A register that is used again is counted twice.
 use Rattle.std.proofs.Common.{refl}
 use Rattle.std.proofs.lemmas.Option.{slice_get-get_or}
-use Rattle.marks_law.proofs.Plain.{no}
+use Rattle.facts.proofs.Tests.{no}
 use Rattle.schedule_check.proofs.Twice.{used_twice, used_once}
 use Rattle.schedule_check.proofs.uses.uses_once.Goals as goal
 

@@ -1,4 +1,4 @@
--- The nodes of a circle are there, and their names one by one.
+-- The nodes of a cycle are there, and their names one by one.
 use Rattle.std.proofs.Common.{ℕ, zero, suc, ◌≡◌, ◌<◌, ◌+◌, ◌++◌, List, [], ◌∷◌, length, get_or, take, Some, None, slice_get, refl, sym, ◌∙◌, subst, arith}
 use Rattle.std.proofs.lemmas.Option.{slice_get-get_or, slice_get_within}
 use Rattle.std.proofs.Math.Seq.{take-suc}
@@ -34,9 +34,9 @@ walk_node p walk (suc i) a is here =
     let next : suc i ≡ i + 1 = omega arith in
     (is.steps i (get_or walk i a) a before (subst (λ j. slice_get walk j ≡ Some a) next here)).here.node
 
--- so is each node of a circle
-pub circle_node : (p : Parts) (nodes : List NodeId) → IsCycle p nodes → (k : ℕ) (d : NodeId) → k < length nodes → IsNode p (get_or nodes k d)
-circle_node p nodes is k d low =
+-- so is each node of a cycle
+pub cycle_node : (p : Parts) (nodes : List NodeId) → IsCycle p nodes → (k : ℕ) (d : NodeId) → k < length nodes → IsNode p (get_or nodes k d)
+cycle_node p nodes is k d low =
     walk_node p (is.lead ++ nodes ++ is.again ∷ []) (length is.lead + k) (get_or nodes k d) is.walk
     (item_within is.lead nodes (is.again ∷ []) k (get_or nodes k d) (slice_get-get_or nodes k d low))
 
