@@ -68,6 +68,14 @@ wrong_map() {
         echo "docs/ARCHITECTURE.md: 'stands on' differs from crates.txt; checks/stands_on.sh prints it as it should be"
 }
 
+# crates with definitions that the table of definitions does not name
+unmapped_definitions() {
+    table=$(awk '/^## /{here = ($0 == "## Where a definition stands")} here' docs/ARCHITECTURE.md)
+    for crate in $(git ls-files 'crates/*/specs/*.antt' | cut -d/ -f2 | sort -u); do
+        grep -qF "\`$crate/specs" <<<"$table" || echo "docs/ARCHITECTURE.md: no definitions of $crate"
+    done
+}
+
 # faults that the printer has and the page of faults has not, and the other way round
 wrong_faults() {
     diff <(grep -oE '=> b"[A-Z][A-Za-z]+ "|b" [A-Z][A-Za-z]+"|rank [A-Z][a-z]+' crates/emu_app/src/answer.rt |
@@ -94,6 +102,7 @@ say "$(missing_links)"
 say "$(missing_files)"
 say "$(missing_clauses)"
 say "$(wrong_map)"
+say "$(unmapped_definitions)"
 say "$(wrong_faults)"
 say "$(strange_words)"
 say "$(long_files)"
