@@ -1,0 +1,11 @@
+pub mod Searches
+pub mod Passing
+pub mod Comments
+pub mod Attributes
+pub mod Digits
+pub mod Others
+pub mod Bases
+pub mod Runs
+pub mod Tokens
+pub mod Constants
+pub mod FirstTokens
