@@ -1,9 +1,10 @@
 //! Recorded commands: runs each line of a table as a command of `emu`, and prints what comes of it.
 //!
 //! The table is the file that the program's argument names. Each line is printed after `> `, then what
-//! the command prints, then its status. The stored output was not made by this program: it holds
-//! the answers that the rules give. So this shows for each command all that it prints, to the last byte,
-//! and how it ends. It is a test, and has no contract.
+//! the command prints, then its status. The stored output has for each
+//! command all that it should print, to the last byte, and how it should end. Where a text is not of the
+//! form that is read so far, that is `NotYet`, which the rules do not know. It is a test, and has no
+//! contract.
 #![tactic(auto)]
 
 use emu_app::run;
