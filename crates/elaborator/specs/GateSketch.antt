@@ -5,7 +5,7 @@ use Rattle.std.specs.Prelude.{◌≡◌, ℕ, ◌==◌, if◌then◌else◌, Opt
 use Rattle.verilog_lex.specs.declared.token.Token.{Token}
 use Rattle.verilog_lex.specs.declared.token.TokenKind.{TokenKind}
 use Rattle.verilog_lex.specs.declared.token.TokenKind.TheVariants.{Keyword}
-use Rattle.token_words.specs.declared.keyword.TheConstants.{BUF, NOT}
+use Rattle.verilog_lex.specs.declared.keyword.TheConstants.{BUF, NOT}
 use Rattle.verilog_tree.specs.declared.source.Dir.{Dir}
 use Rattle.verilog_tree.specs.declared.source.Dir.TheVariants.{Input, Output}
 use Rattle.verilog_tree.specs.declared.source.Expr.{Expr, out-Expr}

@@ -7,7 +7,7 @@ use crate::fault::ElabFault;
 use design_core::Op;
 use emu_io::{List, NoMemory};
 use std::alloc::Global;
-use token_words::keyword::{BUF, NOT};
+use verilog_lex::keyword::{BUF, NOT};
 use verilog_lex::{TokenKind, Tokens};
 use verilog_tree::{Dir, Expr, GatePart, Item, NetPart, PortName};
 

@@ -5,7 +5,7 @@ use Rattle.std.proofs.lemmas.List.{length-drop, length-map}
 use Rattle.verilog_lex.specs.declared.token.Token.{Token}
 use Rattle.token_words.specs.Word.{Word, key, name}
 use Rattle.token_words.specs.Words.{word_of, words_of}
-use Rattle.token_words.specs.declared.keyword.TheConstants.{BUF, ENDMODULE, NOT, WIRE}
+use Rattle.verilog_lex.specs.declared.keyword.TheConstants.{BUF, ENDMODULE, NOT, WIRE}
 use Rattle.design_core.specs.declared.operation.Op.{Op}
 use Rattle.design_core.specs.Plain.{IsPlainOp}
 use Rattle.emu_machine.specs.declared.netlist.Chip.{Chip}

@@ -3,7 +3,7 @@ use Rattle.std.proofs.Common.{◌≡◌, ◌≢◌, ◌+◌, ◌<◌, ◌≤◌,
 use Rattle.std.specs.Prelude.{flat_map, codes}
 use Rattle.std.specs.List.{range_with_len}
 use Rattle.token_words.specs.Word.{Word, key, open_parenthesis, close_parenthesis, comma, semicolon}
-use Rattle.token_words.specs.declared.keyword.TheConstants.{BUF, NOT}
+use Rattle.verilog_lex.specs.declared.keyword.TheConstants.{BUF, NOT}
 use Rattle.verilog_lex.specs.declared.token.TokenKind.TheVariants.{Name, Keyword, Number, Constant, Mark}
 use Rattle.id_arena.specs.declared.keys.ChipNetId.{ChipNetId}
 use Rattle.design_core.specs.declared.operation.Op.{Op}

@@ -5,7 +5,7 @@ use Rattle.std.specs.List.{range_with_len, enumerate_from}
 use Rattle.verilog_lex.specs.declared.token.Token.{Token}
 use Rattle.token_words.specs.Word.{Word, key, name, open_parenthesis, close_parenthesis, comma, semicolon}
 use Rattle.token_words.specs.Words.{words_of}
-use Rattle.token_words.specs.declared.keyword.TheConstants.{BUF, ENDMODULE, MODULE, NOT, WIRE}
+use Rattle.verilog_lex.specs.declared.keyword.TheConstants.{BUF, ENDMODULE, MODULE, NOT, WIRE}
 use Rattle.id_arena.specs.declared.keys.ChipNetId.{ChipNetId}
 use Rattle.design_core.specs.declared.operation.Op.{Op}
 use Rattle.design_core.specs.declared.operation.Op.TheVariants.{Not}

@@ -3,7 +3,7 @@
 use Rattle.std.specs.Prelude.{◌≡◌, ◌≢◌, ◌<◌, ◌^◌, ◌⊎◌, ℕ, Bool, true, false, List, [], ◌∷◌, ◌++◌, Option, Some, None, Result, Ok, Err, codes, slice_get, flat_map}
 use Rattle.std.specs.List.{range_with_len, enumerate_from}
 use Rattle.token_words.specs.Word.{Word, key, name}
-use Rattle.token_words.specs.declared.keyword.TheConstants.{BUF, NOT, WIRE}
+use Rattle.verilog_lex.specs.declared.keyword.TheConstants.{BUF, NOT, WIRE}
 use Rattle.id_arena.specs.declared.keys.ChipNetId.{ChipNetId}
 use Rattle.emu_machine.specs.declared.netlist.Chip.{Chip}
 use Rattle.emu_machine.specs.declared.netlist.EmuGate.{EmuGate}

@@ -1,7 +1,7 @@
 //! The lines of a netlist, taken one at a time.
 ghost use Rattle.std.specs.Prelude.{◌≡◌, ◌<◌, ◌^◌, ◌↔◌, ◌∷◌, [], IfOk, IsTrue};
 ghost use Rattle.token_words.specs.Word.{key};
-ghost use Rattle.token_words.specs.declared.keyword.TheConstants.{ENDMODULE as end_word};
+ghost use Rattle.verilog_lex.specs.declared.keyword.TheConstants.{ENDMODULE as end_word};
 ghost use Rattle.design_core.specs.Plain.{IsPlainOp};
 ghost use Rattle.result_files.specs.PlainNetlist.{numbered, net_word, head_words, wire_words, register_words};
 ghost use Rattle.result_files.specs.Taken.{Begins, IsGateWord, IsNetBelow, IsRegisterBelow, IsLineBelow, Takes, TakesOne, gate_of, line_words, op_words};
@@ -13,7 +13,7 @@ use emu_machine::{EmuGate, EmuRegister};
 use id_arena::ChipNetId;
 use std::alloc::Global;
 use token_words::Word;
-use token_words::keyword::{BUF, ENDMODULE, MODULE, NOT, WIRE};
+use verilog_lex::keyword::{BUF, ENDMODULE, MODULE, NOT, WIRE};
 
 /// The line of a gate with one input.
 #[derive(Clone, Copy)]

@@ -14,8 +14,8 @@ use emu_io::List;
 use emu_machine::{Chip, EmuGate, EmuRegister};
 use std::alloc::Global;
 use token_words::Word;
-use token_words::keyword::WIRE;
 use verilog_lex::Tokens;
+use verilog_lex::keyword::WIRE;
 
 /// The chip that a text writes down: one module `chip0` with its nets, `buf` and `not` gates, and
 /// registers `EHOLD`, each net with one driver. `tokens` are those of `source`. `NotYet` exactly where

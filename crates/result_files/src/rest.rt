@@ -3,7 +3,7 @@ ghost use Rattle.std.specs.Prelude.{◌≡◌, ◌↔◌, ◌<◌, ◌^◌, ◌�
 ghost use Rattle.std.specs.Bool.{OnFalse};
 ghost use Rattle.token_words.specs.Word.{key, name};
 ghost use Rattle.token_words.specs.Words.{words_of};
-ghost use Rattle.token_words.specs.declared.keyword.TheConstants.{BUF, NOT, WIRE};
+ghost use Rattle.verilog_lex.specs.declared.keyword.TheConstants.{BUF, NOT, WIRE};
 ghost use Rattle.result_files.specs.PlainNetlist.{numbered, net_word};
 ghost use Rattle.result_files.specs.Taken.{Begins, IsWireWord, IsGateWord, IsRegisterWord, IsNetBelow, Takes, TakesNumber, TakesOne};
 

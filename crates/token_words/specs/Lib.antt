@@ -1,3 +1,2 @@
-pub mod Keyword
 pub mod Word
 pub mod Words

@@ -4,11 +4,9 @@
 //! them at once. A word is told in `specs/Word.antt`, the words of tokens in `specs/Words.antt`.
 #![tactic(auto)]
 
-pub mod keyword;
 mod word;
 mod words;
 
-pub use keyword::keywords_are_named;
 pub use word::Word;
 pub use words::{are_words, is_word_at, name_at};
 

@@ -1,13 +1,12 @@
 //! Words of texts.
 
-use crate::keyword::{BUF, MODULE};
-use crate::{Word, are_words, is_word_at, keywords_are_named, name_at};
+use crate::{Word, are_words, is_word_at, name_at};
 use std::test::Fail;
+use verilog_lex::keyword::{BUF, MODULE};
 use verilog_lex::tokens;
 
 #[test]
 fn tokens_are_compared_by_what_they_say(rt: HostRuntime) -> Result<(), Fail> {
-    keywords_are_named();
     let words = [
         Word::key(MODULE),
         Word::name(b"buf"),

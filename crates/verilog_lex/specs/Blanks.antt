@@ -1,4 +1,5 @@
 -- White space, comments and attributes.
+-- The rule is told in docs/FORMATS.md, "Tokens".
 use Rattle.std.specs.Prelude.{ℕ, zero, suc, ◌+◌, ◌-◌, Bool, true, false, not, ◌==◌, ◌&&◌, List, [], ◌∷◌, drop, if◌then◌else◌, Option, Some, None, option_map, unwrap_or}
 use Rattle.verilog_lex.specs.declared.bytes.Class.TheVariants.{White, Line}
 use Rattle.verilog_lex.specs.Bytes.{star, slash, backslash, opening, closing, double_quote, is_white, run, first, second}

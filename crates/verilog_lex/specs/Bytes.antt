@@ -1,4 +1,5 @@
 -- The classes of bytes, and the longest runs of one class.
+-- The rule is told in docs/FORMATS.md, "Tokens".
 use Rattle.std.specs.Prelude.{ℕ, Bool, not, ◌==◌, ◌&&◌, ◌||◌, nat_le, List, slice_index, codes}
 use Rattle.std.specs.List.{list_any, prefix_len}
 use Rattle.std.specs.Char.{is_ascii_digit, is_ascii_hexdigit, is_ascii_alphanumeric}

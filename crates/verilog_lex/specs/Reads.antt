@@ -1,4 +1,5 @@
 -- The tokens of a text, or its first fault.
+-- The rule is told in docs/FORMATS.md, "Tokens".
 use Rattle.std.specs.Prelude.{◌≡◌, ℕ, ◌+◌, ◌<◌, ◌≤◌, Bool, true, List, [], ◌∷◌, length, drop, Result, Ok, Err}
 use Rattle.verilog_lex.specs.declared.fault.Cause.{Cause}
 use Rattle.verilog_lex.specs.declared.fault.LexFault.{LexFault}

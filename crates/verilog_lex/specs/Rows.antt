@@ -1,4 +1,4 @@
--- Stored tokens.
+-- Inside: how tokens are stored.
 use Rattle.std.specs.Prelude.{ℕ, ◌<◌, ◌≤◌, ◌^◌, List, [], ◌∷◌, length, get_or, All}
 use Rattle.verilog_lex.specs.declared.token.Constant.{Constant}
 use Rattle.verilog_lex.specs.declared.token.Form.{Form}

@@ -1,4 +1,5 @@
 -- The reserved words.
+-- The rule is told in docs/FORMATS.md, "Tokens".
 use Rattle.std.specs.Prelude.{ℕ, ◌<◌, ◌≤◌, List, [], ◌∷◌, length, slice_index_or, codes, position, bytes_eq}
 use Rattle.std.specs.Option.{option_map_or}
 use Rattle.verilog_lex.specs.declared.token.TokenKind.{TokenKind}

@@ -6,12 +6,14 @@
 //! a relation with one line for the end, for what is passed over, for what sets the default of
 //! undeclared names, for a token and for a fault; which of them stands at a place is told by the
 //! longest runs of bytes there. [`each_text_has_one_answer`] carries the law that each text has an
-//! answer, and no other.
+//! answer, and no other, [`keywords_are_named`] that the constants of [`keyword`] are the places of
+//! their words.
 #![tactic(auto)]
 
 mod blank;
 mod bytes;
 mod fault;
+pub mod keyword;
 mod lex;
 mod number;
 mod piece;
@@ -21,5 +23,6 @@ mod token;
 mod word;
 
 pub use fault::LexFault;
+pub use keyword::keywords_are_named;
 pub use lex::{each_text_has_one_answer, tokens};
 pub use token::{Token, TokenKind, Tokens};

@@ -1,3 +1,5 @@
+-- The grammar: which lists of terminals are which trees.
+-- The rule is told in docs/FORMATS.md, "The grammar".
 use Rattle.std.specs.Prelude.{◌≡◌, ℕ, ◌+◌, ◌≤◌, Bool, length, List, [], ◌∷◌, ◌++◌, Option, Some, None, slice_get}
 use Rattle.verilog_tree.specs.declared.terminal.Terminal.{Terminal}
 use Rattle.verilog_tree.specs.declared.terminal.Terminal.TheVariants.{Name, Number, Constant, Module, EndModule, Direction, Wire, Supply, Assign, Gate, OpenParen, CloseParen, OpenBracket, CloseBracket, OpenBrace, CloseBrace, Comma, Semicolon, Colon, Equals, Dot}

@@ -1,6 +1,6 @@
+-- Laws of the grammar: its texts are read, and a list of tokens has at most one tree.
+-- The rule is told in docs/FORMATS.md, "The grammar".
 use Rattle.std.specs.Prelude.{◌≡◌, ◌⊎◌, ℕ, List, Option, Some, None, Result, Ok, Err, codes, slice_get}
-use Rattle.verilog_lex.specs.Words.{reserved_words}
-use Rattle.verilog_tree.specs.declared.terminal.TheConstants.{AND, ASSIGN, BUF, ENDMODULE, INPUT, MODULE, NAND, NOR, NOT, OR, OUTPUT, SUPPLY0, SUPPLY1, WIRE, XNOR, XOR}
 use Rattle.verilog_tree.specs.declared.parser.ParseFault.{ParseFault}
 use Rattle.verilog_tree.specs.declared.parser.ParseFault.TheVariants.{NoMemory}
 use Rattle.verilog_tree.specs.declared.source.Source.{Source}
@@ -18,26 +18,3 @@ TextsAreRead =
 -- a list of tokens has at most one tree
 abbrev pub HasOneTree : Type 0
 HasOneTree = (ts : List Terminal) (a b : Source) → IsSource ts a → IsSource ts b → a ≡ b
-
--- this word stands at this place of the reserved words
-abbrev pub StandsAt : ℕ → List ℕ → Type 0
-StandsAt place word = slice_get reserved_words place ≡ Some word
-
--- the places of the reserved words that the grammar uses
-pub record WordsStand : Type 0 where
-  pub a_module : StandsAt MODULE (codes "module")
-  pub an_end : StandsAt ENDMODULE (codes "endmodule")
-  pub an_input : StandsAt INPUT (codes "input")
-  pub an_output : StandsAt OUTPUT (codes "output")
-  pub a_wire : StandsAt WIRE (codes "wire")
-  pub a_low : StandsAt SUPPLY0 (codes "supply0")
-  pub a_high : StandsAt SUPPLY1 (codes "supply1")
-  pub an_assign : StandsAt ASSIGN (codes "assign")
-  pub an_and : StandsAt AND (codes "and")
-  pub a_nand : StandsAt NAND (codes "nand")
-  pub an_or : StandsAt OR (codes "or")
-  pub a_nor : StandsAt NOR (codes "nor")
-  pub an_xor : StandsAt XOR (codes "xor")
-  pub an_xnor : StandsAt XNOR (codes "xnor")
-  pub a_buf : StandsAt BUF (codes "buf")
-  pub a_not : StandsAt NOT (codes "not")

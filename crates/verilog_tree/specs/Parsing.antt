@@ -1,3 +1,4 @@
+-- Inside: where the reader stops, and with which fault.
 use Rattle.std.specs.Prelude.{◌≡◌, ℕ, ◌+◌, ◌≤◌, ◌<◌, List, Option, Some, None, slice_get, take}
 use Rattle.verilog_tree.specs.declared.parser.ParseFault.{ParseFault}
 use Rattle.verilog_tree.specs.declared.parser.ParseFault.TheVariants.{Expected, Unsupported, TooDeep, NoMemory}

@@ -1,3 +1,4 @@
+-- Inside: what the reader has still to see at a place, and what may begin it.
 use Rattle.std.specs.Prelude.{◌≡◌, ℕ, ◌+◌, ◌≤◌, Bool, true, false, if◌then◌else◌, ◌==◌, ◌&&◌, List, [], ◌∷◌, ◌++◌, Option, Some, None, Result, Ok, Err, length, drop}
 use Rattle.verilog_tree.specs.declared.source.PortName.{PortName}
 use Rattle.verilog_tree.specs.declared.source.Source.{Source}

@@ -1,3 +1,5 @@
+-- The answer of the reader: the tree, or the first place where no text goes on.
+-- The rule is told in docs/FORMATS.md, "The grammar".
 use Prim.Native.Nat.{zero, suc}
 use Rattle.std.specs.Prelude.{◌≡◌, ℕ, ◌+◌, ◌≤◌, ◌<◌, List, [], ◌∷◌, ◌++◌, Option, Some, None, Result, Ok, Err, slice_get, length, take, drop}
 use Rattle.verilog_tree.specs.declared.parser.ParseFault.{ParseFault}

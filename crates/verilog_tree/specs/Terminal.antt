@@ -1,3 +1,5 @@
+-- What the grammar sees of a token.
+-- The rule is told in docs/FORMATS.md, "The grammar".
 use Rattle.std.specs.Prelude.{◌≡◌, ℕ, Bool, true, false, if◌then◌else◌, ◌==◌, ◌||◌}
 use Rattle.verilog_lex.specs.declared.token.Token.{Token}
 use Rattle.verilog_lex.specs.declared.token.TokenKind.{TokenKind}
@@ -5,7 +7,7 @@ use Rattle.verilog_lex.specs.declared.token.TokenKind.TheVariants.{Name as NameT
 use Rattle.verilog_tree.specs.declared.terminal.Terminal.{Terminal}
 use Rattle.verilog_tree.specs.declared.terminal.Terminal.TheVariants.{Name, Number, Constant, Module, EndModule, Direction, Wire, Supply, Assign, Gate, Reserved, OpenParen, CloseParen, OpenBracket, CloseBracket, OpenBrace, CloseBrace, Comma, Semicolon, Colon, Equals, Dot, Stray}
 use Rattle.verilog_tree.specs.declared.source.Dir.TheVariants.{Input, Output}
-use Rattle.verilog_tree.specs.declared.terminal.TheConstants.{AND, ASSIGN, BUF, ENDMODULE, INPUT, MODULE, NAND, NOR, NOT, OR, OUTPUT, SUPPLY0, SUPPLY1, WIRE, XNOR, XOR}
+use Rattle.verilog_lex.specs.declared.keyword.TheConstants.{AND, ASSIGN, BUF, ENDMODULE, INPUT, MODULE, NAND, NOR, NOT, OR, OUTPUT, SUPPLY0, SUPPLY1, WIRE, XNOR, XOR}
 
 -- the mark of a byte
 abbrev pub mark_of : ℕ → Terminal

@@ -6,8 +6,7 @@
 //! the tree of the text, where at most 64 braces are open at once; the first token up to which no text
 //! begins, told apart by whether it is a reserved word that the grammar does not use; or the 65th brace,
 //! where a text goes on after it. [`has_one_tree`] carries the law that a list of tokens has at most one
-//! tree, [`texts_are_read`] that what the grammar has within the nesting is never refused, and
-//! [`words_stand`] that the reserved words are the lexer's.
+//! tree, [`texts_are_read`] that what the grammar has within the nesting is never refused.
 #![tactic(auto)]
 
 mod assignment;
@@ -25,7 +24,7 @@ mod terminal;
 #[cfg(test)]
 mod tests;
 
-pub use parser::{ParseFault, has_one_tree, parse, texts_are_read, words_stand};
+pub use parser::{ParseFault, has_one_tree, parse, texts_are_read};
 pub use source::{
     AssignPair, Dir, Expr, GatePart, IndexRange, Inst, Item, Links, Module, NamedLink, NetPart,
     PortName, Source,

@@ -1,7 +1,7 @@
 //! The tree of a list of tokens, or the place where no text has them.
 
 ghost use Rattle.std.specs.Prelude.{◌≡◌, ◌<◌, length, map};
-ghost use Rattle.verilog_tree.specs.Laws.{HasOneTree, TextsAreRead, WordsStand};
+ghost use Rattle.verilog_tree.specs.Laws.{HasOneTree, TextsAreRead};
 ghost use Rattle.verilog_tree.specs.Parsing.{FaultIs, readable};
 ghost use Rattle.verilog_tree.specs.Source.{Explains, IsFirstDeep};
 ghost use Rattle.verilog_tree.specs.Terminal.{terminal_at};
@@ -104,9 +104,4 @@ pub fn texts_are_read()
 /// A law: a list of tokens has at most one tree.
 pub fn has_one_tree()
     ensures { HasOneTree }
-{}
-
-/// A law: the places of the reserved words are those of the lexer's list.
-pub fn words_stand()
-    ensures { WordsStand }
 {}

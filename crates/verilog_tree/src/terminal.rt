@@ -5,6 +5,10 @@ ghost use Rattle.verilog_tree.specs.Terminal.{code_of, is_plain, mark_of, termin
 
 use crate::source::Dir;
 use verilog_lex::TokenKind;
+use verilog_lex::keyword::{
+    AND, ASSIGN, BUF, ENDMODULE, INPUT, MODULE, NAND, NOR, NOT, OR, OUTPUT, SUPPLY0, SUPPLY1, WIRE,
+    XNOR, XOR,
+};
 
 /// What the grammar sees of a token: a terminal of its lines.
 #[derive(Clone, Copy, Debug, PartialEq, Eq, Drop)]
@@ -100,39 +104,6 @@ fn mark_with(byte: u8) -> Terminal
         _ => Terminal::Stray,
     }
 }
-
-/// Places in the list of reserved words, from 0.
-const AND: u32 = 1;
-
-const ASSIGN: u32 = 2;
-
-const BUF: u32 = 5;
-
-const ENDMODULE: u32 = 26;
-
-const INPUT: u32 = 47;
-
-const MODULE: u32 = 57;
-
-const NAND: u32 = 58;
-
-const NOR: u32 = 61;
-
-const NOT: u32 = 63;
-
-const OR: u32 = 66;
-
-const OUTPUT: u32 = 67;
-
-const SUPPLY0: u32 = 97;
-
-const SUPPLY1: u32 = 98;
-
-const WIRE: u32 = 120;
-
-const XNOR: u32 = 122;
-
-const XOR: u32 = 123;
 
 /// The reserved word at this place of their list.
 fn word_at(place: u32) -> Terminal

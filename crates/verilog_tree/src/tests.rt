@@ -2,7 +2,7 @@
 
 use crate::{
     Dir, Expr, IndexRange, Item, Links, Module, ParseFault, Source, has_one_tree, parse,
-    texts_are_read, words_stand,
+    texts_are_read,
 };
 use emu_io::NoMemory;
 use std::alloc::Global;
@@ -246,7 +246,6 @@ static FAULTS: [(&[u8], Fault, usize); 53] = [
 fn names_each_fault(rt: HostRuntime) -> Result<(), Fail> {
     has_one_tree();
     texts_are_read();
-    words_stand();
     for (source, kind, byte) in &FAULTS {
         assert!(rt; source.len() < 400);
         let tokens = tokens(rt.alloc(), source)?;
