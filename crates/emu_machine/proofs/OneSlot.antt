@@ -18,7 +18,7 @@ module _ {X : Type 0} where
   head_in : (x : X) (xs : List X) → Contains (x ∷ xs) x
   head_in x xs = (0, omega arith, refl)
 
-  tail_in : (y x : X) (xs : List X) → Contains xs x → Contains (y ∷ xs) x
+  pub tail_in : (y x : X) (xs : List X) → Contains xs x → Contains (y ∷ xs) x
   tail_in y x xs h = Contains-append_right (y ∷ []) xs x h
 
   none_in : {A : Type 0} (x : X) → Contains [] x → A
@@ -32,7 +32,7 @@ module _ {X : Type 0} where
   in_cases y x xs h = in_at y x xs h.0 h.1 h.2
 
 module _ {X Y : Type 0} (f : X → Y) where
-  map_in : (xs : List X) (x : X) → Contains xs x → Contains (map f xs) (f x)
+  pub map_in : (xs : List X) (x : X) → Contains xs x → Contains (map f xs) (f x)
   map_in [] x h = none_in x h
   map_in (z ∷ xs) x h = go (map_in xs x) (in_cases z x xs h)
     where
@@ -67,7 +67,7 @@ in_take (suc n) (y ∷ xs) x h = go (in_take n xs x) (in_cases y x (take n xs) h
 -- ## Which actions of a frame stand in a slot
 
 -- the actions of slots that are numbered from `n` on
-abbrev from : ℕ → List Slot → List Timed
+abbrev pub from : ℕ → List Slot → List Timed
 from n slots = flat_map (λ (t, slot). map (timed t) slot.actions) (enumerate_from n slots)
 
 -- where an action of such slots stands

@@ -6,4 +6,5 @@ pub mod Origins
 pub mod Acceptance
 pub mod Headline
 pub mod Law
+pub mod Readings
 pub mod Plain

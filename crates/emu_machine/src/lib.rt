@@ -5,12 +5,14 @@
 //! and what it means that a machine agrees with the design that it stands for.
 #![tactic(auto)]
 
+mod laws;
 mod map;
 mod netlist;
 mod place;
 mod results;
 mod schedule;
 
+pub use laws::{modules_are_counted, sends_use_again, sends_use_twice};
 pub use map::{ChipMap, MemMap, Spot, StateMap, Subject};
 pub use netlist::{Chip, EmuGate, EmuMemory, EmuRead, EmuRegister, EmuWrite};
 pub use place::{Place, Thing};
