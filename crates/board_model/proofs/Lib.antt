@@ -1,2 +1,4 @@
 pub mod Latencies
 mod OneAnswer
+mod Distances
+mod Parents

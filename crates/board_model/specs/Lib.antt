@@ -3,3 +3,5 @@ pub mod Sound
 pub mod Form
 pub mod FormAnswers
 pub mod Answers
+pub mod Trees
+pub mod Rounds

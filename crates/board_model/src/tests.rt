@@ -1,5 +1,5 @@
 //! Boards from outside, and each call once.
-use crate::{BoardFault, each_text_has_one_answer, read_board};
+use crate::{BoardFault, each_text_has_one_answer, read_board, tree};
 use id_arena::{ChipId, Key, WireId};
 use std::test::Fail;
 
@@ -172,5 +172,30 @@ fn reads_latencies_in_version_two_alone(rt: HostRuntime) -> Result<(), Fail> {
         assert_eq!(rt; board.latency(WireId::of(0)), first);
         assert_eq!(rt; board.latency(WireId::of(1)), second);
     }
+    Ok(())
+}
+
+#[test]
+fn trees_have_the_lowest_parent_of_the_fewest_wires(rt: HostRuntime) -> Result<(), Fail> {
+    let text =
+        "{\"version\":2,\"chips\":[{\"room\":1},{\"room\":1},{\"room\":1},{\"room\":1},{\"room\":1}],\"wires\":[{\"from\":2,\"to\":3,\"latency\":1},{\"from\":0,\"to\":2,\"latency\":1},{\"from\":0,\"to\":1,\"latency\":8},{\"from\":1,\"to\":3,\"latency\":8},{\"from\":4,\"to\":0,\"latency\":1}],\"slots\":4}";
+    let Ok(board) = read_board(rt.alloc(), text.as_bytes()) else {
+        assert!(rt; false, "refused");
+        return Ok(());
+    };
+    assert_eq!(rt; board.chips(), 5);
+    let first = tree(rt.alloc(), &board, ChipId::of(0))?;
+    for (chip, parent) in [
+        (0, None),
+        (1, Some((ChipId::of(0), 1))),
+        (2, Some((ChipId::of(0), 1))),
+        (3, Some((ChipId::of(1), 2))),
+        (4, None),
+    ] {
+        assert_eq!(rt; first.parent(ChipId::of(chip)), parent);
+    }
+    let last = tree(rt.alloc(), &board, ChipId::of(4))?;
+    assert_eq!(rt; last.parent(ChipId::of(0)), Some((ChipId::of(4), 1)));
+    assert_eq!(rt; last.parent(ChipId::of(3)), Some((ChipId::of(1), 3)));
     Ok(())
 }
