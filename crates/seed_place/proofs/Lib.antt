@@ -1,0 +1,3 @@
+pub mod Loads
+mod Steps
+mod OneSeed
