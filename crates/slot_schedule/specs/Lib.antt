@@ -1,0 +1,6 @@
+pub mod Settings
+pub mod Deliveries
+pub mod ListPlan
+pub mod Frames
+pub mod Laws
+pub mod Ordered
