@@ -2,7 +2,7 @@
 ghost use Rattle.std.specs.Prelude.{◌≡◌, ◌<◌, Some, length, slice_get, slice_index_or, map, All, IfOk};
 ghost use Rattle.design_core.specs.Dependency.{IsNode, HasRank};
 ghost use Rattle.clock_rank.specs.Orders.{IsInOrder};
-ghost use Rattle.clock_rank.specs.Numbers.{net_node, number_of};
+ghost use Rattle.clock_rank.specs.Numbers.{all_nodes, net_node, number_of};
 ghost use Rattle.clock_rank.specs.Answers.{Answers};
 
 use crate::fault::RankFault;
@@ -60,7 +60,8 @@ impl<'a> Ranked<'a> {
 
     /// The number of nodes.
     pub fn len(&self) -> u32
-        ensures { result ≡ length self.now.order }
+        ensures count { result ≡ length self.now.order }
+        ensures nodes { result ≡ length (all_nodes self.now.design) }
     {
         self.order.len()
     }
@@ -83,8 +84,9 @@ impl<'a> Ranked<'a> {
         self.nodes[self.order.at(place) as usize]
     }
 
-    // The number of a node.
-    fn number(&self, node: NodeId) -> u32
+    /// The number of a node: nets by their own numbers, and behind them the write nodes by memory and
+    /// port.
+    pub fn number(&self, node: NodeId) -> u32
         requires { IsNode self.now.design node }
         ensures { result ≡ number_of self.now.design node }
     {

@@ -1,2 +1,13 @@
+mod Collected
+mod Faulty
+mod FirstPorts
+mod FrameRows
+mod GroupNets
 mod Items
+mod MemberRows
+mod NodeMarks
 mod OneAnswer
+mod Placed
+mod Spreading
+mod TableBits
+mod WriteMarks

@@ -1,6 +1,6 @@
 -- A text has one answer: the answers of the reader exclude one another.
 use Rattle.std.proofs.Common.{Ok, Err, refl}
-use Rattle.domain_groups.specs.declared.fault.GroupFault.TheVariants.{NotYet, NoMemory}
+use Rattle.domain_groups.specs.declared.no_groups.NoGroupsFault.TheVariants.{NotYet, NoMemory}
 use Rattle.domain_groups.specs.NoGroups.{EachTextHasOneAnswer}
 
 pub one_answer : EachTextHasOneAnswer

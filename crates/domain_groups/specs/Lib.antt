@@ -1,2 +1,11 @@
+pub mod Answers
 pub mod Faults
+pub mod Groups
+pub mod Influences
+pub mod Judged
+pub mod Judging
+pub mod Members
 pub mod NoGroups
+pub mod Ports
+pub mod Reaching
+pub mod Written

@@ -4,8 +4,15 @@ use Rattle.std.specs.Prelude.{◌≡◌, ◌≢◌, ℕ, List, Some, Result, Ok,
 use Rattle.serde_json.specs.Data.{Data, no_items}
 use Rattle.json_members.specs.JsonText.{IsTextOf}
 use Rattle.json_members.specs.Members.{array_member}
-use Rattle.domain_groups.specs.declared.fault.GroupFault.{GroupFault}
-use Rattle.domain_groups.specs.declared.fault.GroupFault.TheVariants.{NotYet, NoMemory}
+use Rattle.json_members.specs.declared.text.JsonFault.{JsonFault}
+use Rattle.json_members.specs.declared.text.JsonFault.TheVariants as json
+use Rattle.domain_groups.specs.declared.no_groups.NoGroupsFault.{NoGroupsFault}
+use Rattle.domain_groups.specs.declared.no_groups.NoGroupsFault.TheVariants.{NotYet, NoMemory}
+
+-- a text that is no JSON, or no memory left
+abbrev pub FromJson : JsonFault → NoGroupsFault → Type 0
+FromJson json.NotJson fault = fault ≡ NotYet
+FromJson json.NoMemory fault = fault ≡ NoMemory
 
 -- the tree is an object whose member `groups` is an empty list; other members may stand beside it
 abbrev pub HasNoGroups : Data → Type 0
@@ -18,7 +25,7 @@ pub record SaysNoGroups (bytes : List ℕ) : Type 0 where
   pub form : HasNoGroups tree
 
 -- Ok exactly where the text names no group, and `NotYet` exactly where it does not
-abbrev pub Answers : List ℕ → Result ⊤ GroupFault → Type 0
+abbrev pub Answers : List ℕ → Result ⊤ NoGroupsFault → Type 0
 Answers bytes (Ok done) = SaysNoGroups bytes
 Answers bytes (Err NotYet) = SaysNoGroups bytes → ⊥
 Answers bytes (Err NoMemory) = Unit {0}
@@ -26,4 +33,4 @@ Answers bytes (Err NoMemory) = Unit {0}
 -- a text has one answer, want of memory aside
 abbrev pub EachTextHasOneAnswer : Type 0
 EachTextHasOneAnswer =
-    (bytes : List ℕ) (first second : Result ⊤ GroupFault) → first ≢ Err NoMemory → second ≢ Err NoMemory → Answers bytes first → Answers bytes second → first ≡ second
+    (bytes : List ℕ) (first second : Result ⊤ NoGroupsFault) → first ≢ Err NoMemory → second ≢ Err NoMemory → Answers bytes first → Answers bytes second → first ≡ second

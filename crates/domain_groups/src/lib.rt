@@ -1,14 +1,27 @@
-//! Groups of inputs, told by a JSON text.
+//! Groups of inputs, told by a JSON text, and what each of them can reach.
 //!
-//! So far the only text that is read is one that names no group: `read_no_groups` answers Ok exactly
-//! where `specs/NoGroups.antt` says that a text does so.
+//! `read_groups` gives the groups that a text stands for in a design, or the first fault of the text,
+//! exactly (`specs/Answers.antt`). `influence` gives for each group, and for the group `*` of all inputs,
+//! just the nodes that an event of it can change: the least set that holds its input bits and each node
+//! that depends on one of its nodes (`specs/Influences.antt`).
 #![tactic(auto)]
 
+mod events;
 mod fault;
+mod groups;
+mod influences;
 mod no_groups;
+mod port_names;
+mod read;
+mod written;
 
+pub use events::{Event, Events};
 pub use fault::GroupFault;
-pub use no_groups::{each_groups_text_has_one_answer, read_no_groups};
+pub use groups::Groups;
+pub use influences::influence;
+pub use no_groups::{NoGroupsFault, each_groups_text_has_one_answer, read_no_groups};
+pub use port_names::PortNames;
+pub use read::{each_text_has_one_answer, read_groups};
 
 #[cfg(test)]
 mod tests;

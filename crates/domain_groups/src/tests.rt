@@ -1,5 +1,5 @@
 //! Texts that name no group, and others.
-use crate::{GroupFault, each_groups_text_has_one_answer, read_no_groups};
+use crate::{NoGroupsFault, each_groups_text_has_one_answer, read_no_groups};
 use std::test::Fail;
 
 #[test]
@@ -34,7 +34,7 @@ fn refuses_other_texts(rt: HostRuntime) -> Result<(), Fail> {
     ] {
         assert!(rt;
             read_no_groups(rt.alloc(), text.as_bytes()).is_err_and(|fault| fault
-                == GroupFault::NotYet),
+                == NoGroupsFault::NotYet),
             "at {text}"
         );
     }
