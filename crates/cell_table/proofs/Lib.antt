@@ -4,3 +4,4 @@ pub mod JudgeLemmas
 pub mod TableLemmas
 pub mod FaultLemmas
 pub mod SoundLemmas
+pub mod OneAnswer

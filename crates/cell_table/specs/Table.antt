@@ -1,6 +1,6 @@
 -- The table that a text stands for, or why it stands for none.
 -- The rule is told in docs/FORMATS.md, "The cell table".
-use Rattle.std.specs.Prelude.{◌≡◌, ◌==◌, ◌||◌, IsTrue, is_some, if◌then◌else◌, ℕ, List, length, map, take, slice_get, codes, option_map, Option, Some, None, Result, Ok, Err}
+use Rattle.std.specs.Prelude.{◌≡◌, ◌≢◌, ◌==◌, ◌||◌, IsTrue, is_some, if◌then◌else◌, ℕ, List, length, map, take, slice_get, codes, option_map, Option, Some, None, Result, Ok, Err}
 use Rattle.serde_json.specs.Data.{Data}
 use Rattle.json_members.specs.JsonText.{IsTextOf, IsNoJson}
 use Rattle.json_members.specs.Members.{◌>>=◌, all_of, array_member, data_of, word_member}
@@ -57,3 +57,9 @@ abbrev pub Stands : List ℕ → Result (List Cell) CellFault → Type 0
 Stands bytes (Err NotJson) = IsNoJson bytes
 Stands bytes (Err NoMemory) = Unit {0}
 Stands bytes result = (d : Data) × IsTextOf bytes d × ValueStands d result
+
+-- a text has one answer, want of memory aside: it stands for one table at most, and one that is refused has
+-- one first fault
+abbrev pub EachTextHasOneAnswer : Type 0
+EachTextHasOneAnswer =
+    (bytes : List ℕ) (first second : Result (List Cell) CellFault) → first ≢ Err NoMemory → second ≢ Err NoMemory → Stands bytes first → Stands bytes second → first ≡ second

@@ -28,5 +28,5 @@ mod written;
 
 pub use cell::{Cell, CellKind, CellRead, CellWrite, CombOut, EdgePin, FeedPin, LevelPin};
 pub use fault::CellFault;
-pub use read::read_cells;
+pub use read::{each_text_has_one_answer, read_cells};
 pub use table::CellTable;

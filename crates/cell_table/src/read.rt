@@ -6,7 +6,7 @@ ghost use Rattle.id_arena.specs.Names.{place_among};
 ghost use Rattle.serde_json.specs.View.{view};
 ghost use Rattle.cell_table.specs.Faults.{Judges, cell_fault, cell_of, written_fault};
 ghost use Rattle.cell_table.specs.Sound.{IsSoundKind};
-ghost use Rattle.cell_table.specs.Table.{ListStands, Stands, ValueStands, names_of, version_of};
+ghost use Rattle.cell_table.specs.Table.{EachTextHasOneAnswer, ListStands, Stands, ValueStands, names_of, version_of};
 
 use crate::build::cell_from;
 use crate::cell::Cell;
@@ -31,6 +31,11 @@ pub fn read_cells(alloc: Global, bytes: &[u8]) -> Result<CellTable, CellFault>
     let value = read_json(alloc, bytes)?;
     table_from(alloc, &value)
 }
+
+/// The law that a text has one answer, want of memory aside.
+pub fn each_text_has_one_answer()
+    ensures { EachTextHasOneAnswer }
+{}
 
 /// The table that a JSON value stands for.
 fn table_from(alloc: Global, value: &Value) -> Result<CellTable, CellFault>

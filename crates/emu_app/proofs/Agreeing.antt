@@ -10,7 +10,7 @@ use Rattle.trace_law.specs.Traces.{SettledTraceIsOne}
 use Rattle.emu_app.specs.declared.recording.Recording.{Recording}
 use Rattle.emu_app.specs.declared.command.Command.TheVariants.{Settle}
 use Rattle.emu_app.specs.declared.what.What.{What}
-use Rattle.emu_app.specs.declared.what.What.TheVariants.{Design, Groups, Opening, Events}
+use Rattle.emu_app.specs.declared.what.What.TheVariants.{Design, Cells, Groups, Opening, Events}
 use Rattle.emu_app.specs.Command.{Reads}
 use Rattle.emu_app.specs.Fetching.{Texts}
 use Rattle.emu_app.specs.Reading.{StandFor, StandForSettle}
@@ -23,7 +23,7 @@ stands_too : (top : List ℕ) (texts others : Texts) (c : Case) (r : Recording) 
 stands_too top texts others c r same s recorded =
     let first : DesignSays top texts c.design = subst (λ (x : Case). DesignSays top texts x.design) (sym s.is) s.board_says.first in
     record {
-      first = first_too Settle top texts others c.design (same Design (omega arith)) (same Groups (omega arith)) first;
+      first = first_too Settle top texts others c.design (same Design (omega arith)) (same Cells (omega arith)) (same Groups (omega arith)) first;
       recorded = recorded_too texts others c.design r (same Opening (omega arith)) (same Events (omega arith)) recorded;
     }
 

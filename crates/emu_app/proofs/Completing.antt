@@ -11,11 +11,11 @@ use Rattle.emu_app.specs.declared.refusal.Refusal.{Refusal}
 use Rattle.emu_app.specs.declared.status.Status.{Status}
 use Rattle.emu_app.specs.declared.status.Status.TheVariants as status
 use Rattle.emu_app.specs.declared.what.What.{What}
-use Rattle.emu_app.specs.declared.what.What.TheVariants.{Design, Groups, Board, Netlist, Schedule as ScheduleText, Map, Opening, Events}
+use Rattle.emu_app.specs.declared.what.What.TheVariants.{Design, Cells, Groups, Board, Netlist, Schedule as ScheduleText, Map, Opening, Events}
 use Rattle.emu_app.specs.What.{limit, order}
 use Rattle.emu_app.specs.Command.{CommandWords, IsCommand, Reads, command_word, name_of}
 use Rattle.emu_app.specs.Fetching.{Texts, AreHeld, IsHeld, FirstTooLarge, NotThere, FetchFailed}
-use Rattle.emu_app.specs.Forms.{SaysBoard, SaysDesign, SaysNetlist}
+use Rattle.emu_app.specs.Forms.{HasCells, SaysBoard, SaysDesign, SaysNetlist}
 use Rattle.emu_app.specs.Printing.{status_of}
 use Rattle.emu_app.specs.Reading.{AreRead, BoardSays, Refuses, RefusedTextsStandForNothing, ResultsSay, StandFor}
 use Rattle.emu_app.specs.Runs.{CanReplay, DesignSays, RecordingSays}
@@ -81,10 +81,11 @@ same_texts held n a b what reads are-a are-b = one_text held (name_of n what) (a
 abbrev AreSame : Command → Texts → Texts → Type 0
 AreSame command a b = (what : What) → Reads command what → a what ≡ b what
 
-pub first_too : (command : Command) (top : List ℕ) (a b : Texts) (p : Parts) → a Design ≡ b Design → a Groups ≡ b Groups → DesignSays top a p → DesignSays top b p
-first_too command top a b p design groups says =
+pub first_too : (command : Command) (top : List ℕ) (a b : Texts) (p : Parts) → a Design ≡ b Design → a Cells ≡ b Cells → a Groups ≡ b Groups → DesignSays top a p → DesignSays top b p
+first_too command top a b p design cells groups says =
     record {
       design = subst (λ t. SaysDesign top t p) design says.design;
+      cells = subst HasCells cells says.cells;
       ranked = says.ranked;
       groups = subst SaysNoGroups groups says.groups;
     }
@@ -100,7 +101,7 @@ module _ (top : List ℕ) (a b : Texts) (same : (what : What) → order what < 7
         chip = s.chip;
         results = s.results;
         board_says = record {
-          first = first_too Check top a b s.design (same Design (omega arith)) (same Groups (omega arith)) board.first;
+          first = first_too Check top a b s.design (same Design (omega arith)) (same Cells (omega arith)) (same Groups (omega arith)) board.first;
           board = subst (λ t. SaysBoard t s.chip) (same Board (omega arith)) board.board;
         };
         results_say = record {
@@ -132,7 +133,7 @@ fine_too Settle top a b same fine =
       design = fine.design;
       recording = fine.recording;
       stand = record {
-        first = first_too Settle top a b fine.design (same Design (omega arith)) (same Groups (omega arith)) fine.stand.first;
+        first = first_too Settle top a b fine.design (same Design (omega arith)) (same Cells (omega arith)) (same Groups (omega arith)) fine.stand.first;
         recorded = recorded_too a b fine.design fine.recording (same Opening (omega arith)) (same Events (omega arith)) fine.stand.recorded;
       };
     }

@@ -3,7 +3,7 @@ use Rattle.std.proofs.Common.{ℕ, ◌≡◌, ◌<◌, ◌≤◌, ◌^◌, List,
 use Rattle.design_core.specs.declared.parts.Parts.{Parts}
 use Rattle.design_core.specs.Dependency.{IsRanked}
 use Rattle.design_core.specs.declared.values.PortBit.{PortBit}
-use Rattle.domain_groups.specs.NoGroups.{SaysNoGroups}
+use Rattle.board_model.specs.Answers as boards
 use Rattle.event_replay.specs.Openings.{SaysOpening}
 use Rattle.emu_machine.specs.declared.netlist.Chip.{Chip}
 use Rattle.emu_machine.specs.declared.schedule.Schedule.{Schedule}
@@ -18,9 +18,10 @@ use Rattle.emu_app.specs.declared.refusal.Unread.TheVariants as unread
 use Rattle.emu_app.specs.Command.{Reads}
 use Rattle.emu_app.specs.What.{order, limit}
 use Rattle.emu_app.specs.Fetching.{Texts, AreWithin}
-use Rattle.emu_app.specs.Forms.{SaysDesign, SaysNetlist}
-use Rattle.emu_app.specs.Cycles.{RankMeans}
-use Rattle.emu_app.specs.Reading.{AllMean, BoardSays, DesignMeans, EarlierAreRead, FirstUnread, IsRead, Means, NoneSaid, NotYetMeans}
+use Rattle.emu_app.specs.Forms.{HasCells, HasTree, SaysDesign, SaysNetlist}
+use Rattle.emu_app.specs.Reading.{AllMean, BoardMeans, BoardSays, CellsMean, DesignMeans, EarlierAreRead, FirstSay, FirstUnread, IsRead, Means, NoneSaid, NotYetMeans, TreeMeans}
+use Rattle.emu_app.specs.Runs.{DesignSays}
+use Rattle.emu_app.proofs.Readings.{no_board, no_chip}
 
 -- a text within its limit is short enough for the lexer
 pub short_text : (texts : Texts) (what : What) (bytes : List ℕ) → bytes ≡ texts what → AreWithin texts → length bytes < 2 ^ 32
@@ -41,43 +42,61 @@ short_text texts what bytes same within =
     small Events = lit< tt
 
 -- a text after the design is refused as the first where all before it are read
-first_unread : (command : Command) (top : List ℕ) (texts : Texts) (what : What) → FirstUnread command top texts what → NotYetMeans command top texts what
-first_unread command top texts Design first = absurd (let later : order Design < order Design = first.later in omega (arith, later))
-first_unread command top texts Cells first = first
-first_unread command top texts Groups first = first
-first_unread command top texts Board first = first
-first_unread command top texts Netlist first = first
-first_unread command top texts ScheduleText first = first
-first_unread command top texts Map first = first
-first_unread command top texts Opening first = first
-first_unread command top texts Events first = first
-
 pub refused_as : {X Y : Type 0} (S : X → Type 0) (T : Y → Type 0) (command : Command) (top : List ℕ) (texts : Texts) (what : What) (why : Unread)
-    → Means what S (Err why) → Reads command what → order Design < order what → (NoneSaid S → IsRead top texts what → ⊥) → EarlierAreRead command top texts what → AllMean command top texts T (Err why)
-refused_as S T command top texts what (unread.Refused (refusal.NotYet other)) means reads later none earlier =
-    subst (NotYetMeans command top texts) (sym means.0) (first_unread command top texts what (record { reads = reads; later = later; here = none means.1; earlier = earlier }))
-refused_as S T command top texts what (unread.Refused (refusal.Faulty fault)) means reads later none earlier = absurd means
-refused_as S T command top texts what (unread.Refused (refusal.Cycle names)) means reads later none earlier = absurd means
-refused_as S T command top texts what unread.NoMemory means reads later none earlier = tt
+    → Means what S (Err why) → (FirstUnread command top texts what → NotYetMeans command top texts what)
+    → Reads command what → order Design < order what → (NoneSaid S → IsRead top texts what → ⊥) → EarlierAreRead command top texts what → AllMean command top texts T (Err why)
+refused_as S T command top texts what (unread.Refused (refusal.NotYet other)) means first reads later none earlier =
+    subst (NotYetMeans command top texts) (sym means.0) (first (record { reads = reads; later = later; here = none means.1; earlier = earlier }))
+refused_as S T command top texts what (unread.Refused (refusal.Faulty fault)) means first reads later none earlier = absurd means
+refused_as S T command top texts what (unread.Refused (refusal.Cells fault)) means first reads later none earlier = absurd means
+refused_as S T command top texts what (unread.Refused (refusal.Board fault)) means first reads later none earlier = absurd means
+refused_as S T command top texts what (unread.Refused (refusal.Cycle names)) means first reads later none earlier = absurd means
+refused_as S T command top texts what unread.NoMemory means first reads later none earlier = tt
 
 -- the design is the first text, and has faults of its own
-pub refused_design : {Y : Type 0} (T : Y → Type 0) (command : Command) (top : List ℕ) (texts : Texts) (why : Unread) → DesignMeans top (texts Design) (Err why) → AllMean command top texts T (Err why)
-refused_design T command top texts (unread.Refused (refusal.Faulty fault)) means = means
-refused_design T command top texts (unread.Refused (refusal.Cycle names)) means = absurd means
-refused_design T command top texts (unread.Refused (refusal.NotYet what)) means = subst (NotYetMeans command top texts) (sym means.0) (record { parsed = means.1; none = means.2 })
-refused_design T command top texts unread.NoMemory means = tt
+pub refused_tree : {Y : Type 0} (T : Y → Type 0) (command : Command) (top : List ℕ) (texts : Texts) (why : Unread) → TreeMeans (texts Design) (Err why) → AllMean command top texts T (Err why)
+refused_tree T command top texts (unread.Refused (refusal.Faulty fault)) means = means
+refused_tree T command top texts (unread.Refused (refusal.Cells fault)) means = absurd means
+refused_tree T command top texts (unread.Refused (refusal.Board fault)) means = absurd means
+refused_tree T command top texts (unread.Refused (refusal.Cycle names)) means = absurd means
+refused_tree T command top texts (unread.Refused (refusal.NotYet what)) means = absurd means
+refused_tree T command top texts unread.NoMemory means = tt
 
--- a design that has a cycle is refused
-pub refused_rank : {Y : Type 0} (T : Y → Type 0) (command : Command) (top : List ℕ) (texts : Texts) (p : Parts) (why : Unread) → SaysDesign top (texts Design) p → RankMeans p (Err why) → AllMean command top texts T (Err why)
-refused_rank T command top texts p (unread.Refused (refusal.Faulty fault)) says means = absurd means
-refused_rank T command top texts p (unread.Refused (refusal.Cycle names)) says means = record { design = p; says = says; cycle = means }
-refused_rank T command top texts p (unread.Refused (refusal.NotYet what)) says means = absurd means
-refused_rank T command top texts p unread.NoMemory says means = tt
+-- cells are refused where the design has its tree
+pub refused_cells : {Y : Type 0} (T : Y → Type 0) (command : Command) (top : List ℕ) (texts : Texts) (why : Unread) → HasTree (texts Design) → CellsMean (texts Cells) (Err why) → AllMean command top texts T (Err why)
+refused_cells T command top texts (unread.Refused (refusal.Cells fault)) tree means = (tree, means)
+refused_cells T command top texts (unread.Refused (refusal.Faulty fault)) tree means = absurd means
+refused_cells T command top texts (unread.Refused (refusal.Board fault)) tree means = absurd means
+refused_cells T command top texts (unread.Refused (refusal.Cycle names)) tree means = absurd means
+refused_cells T command top texts (unread.Refused (refusal.NotYet what)) tree means = absurd means
+refused_cells T command top texts unread.NoMemory tree means = tt
 
-module _ (command : Command) (top : List ℕ) (texts : Texts) (p : Parts) (design : SaysDesign top (texts Design) p) (ranked : IsRanked p) where
+-- a tree is refused where the cells are read
+pub refused_design : {Y : Type 0} (T : Y → Type 0) (command : Command) (top : List ℕ) (texts : Texts) (why : Unread) → HasCells (texts Cells) → DesignMeans top (texts Design) (Err why) → AllMean command top texts T (Err why)
+refused_design T command top texts (unread.Refused (refusal.NotYet what)) cells means = subst (NotYetMeans command top texts) (sym means.0) (cells, record { parsed = means.1; none = means.2 })
+refused_design T command top texts (unread.Refused (refusal.Faulty fault)) cells means = absurd means
+refused_design T command top texts (unread.Refused (refusal.Cells fault)) cells means = absurd means
+refused_design T command top texts (unread.Refused (refusal.Board fault)) cells means = absurd means
+refused_design T command top texts (unread.Refused (refusal.Cycle names)) cells means = absurd means
+refused_design T command top texts unread.NoMemory cells means = tt
+
+-- a board is refused where all before it are read: it has a fault, or it is not of one chip without wires
+pub refused_board : {Y : Type 0} (T : Y → Type 0) → boards.EachTextHasOneAnswer → (command : Command) (top : List ℕ) (texts : Texts) (why : Unread)
+    → BoardMeans (texts Board) (Err why) → Reads command Board → EarlierAreRead command top texts Board → AllMean command top texts T (Err why)
+refused_board T law command top texts (unread.Refused (refusal.Board fault)) means reads earlier =
+    (means, record { reads = reads; later = omega arith; here = λ read. no_board law (texts Board) fault means read.0 read.1; earlier = earlier })
+refused_board T law command top texts (unread.Refused (refusal.NotYet what)) means reads earlier =
+    subst (NotYetMeans command top texts) (sym means.0)
+    (means.1, record { reads = reads; later = omega arith; here = λ read. no_chip law (texts Board) means.1 read.0 read.1; earlier = earlier })
+refused_board T law command top texts (unread.Refused (refusal.Faulty fault)) means reads earlier = absurd means
+refused_board T law command top texts (unread.Refused (refusal.Cells fault)) means reads earlier = absurd means
+refused_board T law command top texts (unread.Refused (refusal.Cycle names)) means reads earlier = absurd means
+refused_board T law command top texts unread.NoMemory means reads earlier = tt
+
+module _ (command : Command) (top : List ℕ) (texts : Texts) (p : Parts) (first : FirstSay top texts p) (ranked : IsRanked p) where
   pub before_groups : EarlierAreRead command top texts Groups
-  before_groups Design reads early = (p, design, ranked)
-  before_groups Cells reads early = tt
+  before_groups Design reads early = (p, first.design, ranked)
+  before_groups Cells reads early = first.cells
   before_groups Groups reads early = absurd (omega (arith, early))
   before_groups Board reads early = absurd (omega (arith, early))
   before_groups Netlist reads early = absurd (omega (arith, early))
@@ -86,21 +105,22 @@ module _ (command : Command) (top : List ℕ) (texts : Texts) (p : Parts) (desig
   before_groups Opening reads early = absurd (omega (arith, early))
   before_groups Events reads early = absurd (omega (arith, early))
 
-  pub before_board : SaysNoGroups (texts Groups) → EarlierAreRead command top texts Board
-  before_board groups Design reads early = (p, design, ranked)
-  before_board groups Cells reads early = tt
-  before_board groups Groups reads early = groups
-  before_board groups Board reads early = absurd (omega (arith, early))
-  before_board groups Netlist reads early = absurd (omega (arith, early))
-  before_board groups ScheduleText reads early = absurd (omega (arith, early))
-  before_board groups Map reads early = absurd (omega (arith, early))
-  before_board groups Opening reads early = absurd (omega (arith, early))
-  before_board groups Events reads early = absurd (omega (arith, early))
+module _ (command : Command) (top : List ℕ) (texts : Texts) (p : Parts) (says : DesignSays top texts p) where
+  pub before_board : EarlierAreRead command top texts Board
+  before_board Design reads early = (p, says.design, says.ranked)
+  before_board Cells reads early = says.cells
+  before_board Groups reads early = says.groups
+  before_board Board reads early = absurd (omega (arith, early))
+  before_board Netlist reads early = absurd (omega (arith, early))
+  before_board ScheduleText reads early = absurd (omega (arith, early))
+  before_board Map reads early = absurd (omega (arith, early))
+  before_board Opening reads early = absurd (omega (arith, early))
+  before_board Events reads early = absurd (omega (arith, early))
 
 module _ (command : Command) (top : List ℕ) (texts : Texts) (p : Parts) (one : OneChip) (board : BoardSays top texts p one) where
   pub before_netlist : EarlierAreRead command top texts Netlist
   before_netlist Design reads early = (p, board.first.design, board.first.ranked)
-  before_netlist Cells reads early = tt
+  before_netlist Cells reads early = board.first.cells
   before_netlist Groups reads early = board.first.groups
   before_netlist Board reads early = (one, board.board)
   before_netlist Netlist reads early = absurd (omega (arith, early))
@@ -111,7 +131,7 @@ module _ (command : Command) (top : List ℕ) (texts : Texts) (p : Parts) (one :
 
   pub before_schedule : (chip : Chip) → SaysNetlist (texts Netlist) chip → EarlierAreRead command top texts ScheduleText
   before_schedule chip netlist Design reads early = (p, board.first.design, board.first.ranked)
-  before_schedule chip netlist Cells reads early = tt
+  before_schedule chip netlist Cells reads early = board.first.cells
   before_schedule chip netlist Groups reads early = board.first.groups
   before_schedule chip netlist Board reads early = (one, board.board)
   before_schedule chip netlist Netlist reads early = (chip, netlist)
@@ -122,7 +142,7 @@ module _ (command : Command) (top : List ℕ) (texts : Texts) (p : Parts) (one :
 
   pub before_map : (chip : Chip) (schedule : Schedule) → SaysNetlist (texts Netlist) chip → SaysSchedule (texts ScheduleText) schedule → EarlierAreRead command top texts Map
   before_map chip schedule netlist says Design reads early = (p, board.first.design, board.first.ranked)
-  before_map chip schedule netlist says Cells reads early = tt
+  before_map chip schedule netlist says Cells reads early = board.first.cells
   before_map chip schedule netlist says Groups reads early = board.first.groups
   before_map chip schedule netlist says Board reads early = (one, board.board)
   before_map chip schedule netlist says Netlist reads early = (chip, netlist)

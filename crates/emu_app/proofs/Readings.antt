@@ -18,15 +18,22 @@ use Rattle.elaborator.specs.GateDesign.{Describes}
 use Rattle.board_model.specs.declared.fault.BoardFault.{BoardFault}
 use Rattle.board_model.specs.declared.fault.BoardFault.TheVariants as board
 use Rattle.board_model.specs.Answers as boards
+use Rattle.cell_table.specs.declared.cell.Cell.{Cell}
+use Rattle.cell_table.specs.declared.fault.CellFault.{CellFault}
+use Rattle.cell_table.specs.declared.fault.CellFault.TheVariants as cell
+use Rattle.cell_table.specs.Table as tables
 use Rattle.emu_machine.specs.declared.netlist.Chip.{Chip}
 use Rattle.result_files.specs.PlainNetlist.{SaysChip}
+use Rattle.emu_app.specs.declared.refusal.BoardsFault.{BoardsFault}
+use Rattle.emu_app.specs.declared.refusal.BoardsFault.TheVariants as told
+use Rattle.emu_app.specs.declared.refusal.CellsFault.{CellsFault}
+use Rattle.emu_app.specs.declared.refusal.CellsFault.TheVariants as cells
 use Rattle.emu_app.specs.declared.refusal.Refusal.TheVariants as refusal
-use Rattle.emu_app.specs.declared.refusal.Unread.{Unread}
 use Rattle.emu_app.specs.declared.refusal.Unread.TheVariants as unread
 use Rattle.emu_app.specs.declared.what.What.TheVariants.{Design}
-use Rattle.emu_app.specs.Faults.{HasNoTree, byte_of, lex_refusal, parse_refusal}
-use Rattle.emu_app.specs.Forms.{AreTokens, IsTreeOf, SaysDesign, SaysBoard, SaysNetlist}
-use Rattle.emu_app.specs.Reading.{DesignMeans, NoneSaid, TreeMeans}
+use Rattle.emu_app.specs.Faults.{HasBoardFault, HasCellsFault, HasNoTree, board_fault_of, board_refusal, byte_of, cell_fault_of, cells_refusal, lex_refusal, parse_refusal}
+use Rattle.emu_app.specs.Forms.{AreTokens, HasCells, IsTreeOf, SaysBoard, SaysDesign, SaysNetlist, SaysOtherBoard, plan_of}
+use Rattle.emu_app.specs.Reading.{BoardMeans, CellsMean, DesignMeans, NoneSaid, TreeMeans}
 
 -- two answers of one text are the same
 pub one_answer : reading.EachTextHasOneAnswer → (text : List ℕ) (a b : Result (List Token) LexFault) → reading.Reads text true 0 a → reading.Reads text true 0 b → a ≡ b
@@ -82,13 +89,6 @@ parse_means text tokens (parse.Expected place) are explains = no_tree text token
 parse_means text tokens (parse.Unsupported place) are explains = no_tree text tokens parse.Unsupported place are explains
 parse_means text tokens (parse.TooDeep place) are explains = no_tree text tokens parse.TooDeep place are explains
 parse_means text tokens parse.NoMemory are explains = tt
-
--- a text without a tree describes no design, and is refused by the same fault
-pub design_refused : (top text : List ℕ) (why : Unread) → TreeMeans text (Err why) → DesignMeans top text (Err why)
-design_refused top text (unread.Refused (refusal.Faulty fault)) means = means
-design_refused top text (unread.Refused (refusal.Cycle names)) means = absurd means
-design_refused top text (unread.Refused (refusal.NotYet what)) means = absurd means
-design_refused top text unread.NoMemory means = tt
 
 -- a text has one list of tokens and one tree
 pub one_tree : reading.EachTextHasOneAnswer → HasOneTree → (text : List ℕ) (tokens others : List Token) (tree other : Source)
@@ -151,17 +151,65 @@ one_plan law text a b stands-a stands-b =
     let same : left ≡ right = law text left right left-kept right-kept stands-a stands-b in
     cc
 
--- where the board is not one chip without wires, the text says no such one
-pub no_chip : boards.EachTextHasOneAnswer → (text : List ℕ) (plan : BoardPlan) → boards.StandsFor text plan → ((room slots : ℕ) → plan ≡ one_chip_plan room slots → ⊥) → NoneSaid (SaysBoard text)
-no_chip law text plan stands never chip says = never chip.room chip.slots (one_plan law text plan (one_chip_plan chip.room chip.slots) stands says)
+-- where a text describes another board, it says none of one chip without wires
+pub no_chip : boards.EachTextHasOneAnswer → (text : List ℕ) → SaysOtherBoard text → NoneSaid (SaysBoard text)
+no_chip law text other chip says = other.other chip (one_plan law text other.plan (plan_of chip) other.stands says)
+
+-- no fault that is told is want of memory
+not_memory : (fault : BoardsFault) → board_fault_of fault ≡ board.NoMemory → ⊥
+not_memory told.NotJson same = cc
+not_memory told.BadShape same = cc
+not_memory told.Version same = cc
+not_memory told.Limit same = cc
+not_memory (told.BadWire wire) same = cc
 
 -- a text with a fault stands for no board
-pub no_board : boards.EachTextHasOneAnswer → (text : List ℕ) (fault : BoardFault) → boards.Answers text (Err fault) → (fault ≡ board.NoMemory → ⊥) → NoneSaid (SaysBoard text)
-no_board law text fault answers apart chip says =
-    let left : Result BoardPlan BoardFault = Err fault in
-    let right : Result BoardPlan BoardFault = Ok (one_chip_plan chip.room chip.slots) in
+pub no_board : boards.EachTextHasOneAnswer → (text : List ℕ) (fault : BoardsFault) → HasBoardFault text fault → NoneSaid (SaysBoard text)
+no_board law text fault answers chip says =
+    let left : Result BoardPlan BoardFault = Err (board_fault_of fault) in
+    let right : Result BoardPlan BoardFault = Ok (plan_of chip) in
     let memory : Result BoardPlan BoardFault = Err board.NoMemory in
-    let left-kept : left ≢ memory = λ e. apart cc in
+    let left-kept : left ≢ memory = λ e. not_memory fault cc in
     let right-kept : right ≢ memory = λ e. cc in
     let same : left ≡ right = law text left right left-kept right-kept answers says in
+    cc
+
+-- a fault that the reader of boards tells is the text's
+pub board_means : (text : List ℕ) (fault : BoardFault) → boards.Answers text (Err fault) → BoardMeans text (Err (board_refusal fault))
+board_means text board.NotJson answers = answers
+board_means text board.BadShape answers = answers
+board_means text board.Version answers = answers
+board_means text board.Limit answers = answers
+board_means text (board.BadWire wire) answers = answers
+board_means text board.NoMemory answers = tt
+
+-- a fault that the reader of cell tables tells is the text's
+pub cells_mean : (text : List ℕ) (fault : CellFault) → tables.Stands text (Err fault) → CellsMean text (Err (cells_refusal fault))
+cells_mean text cell.NotJson stands = stands
+cells_mean text cell.Version stands = stands
+cells_mean text (cell.BadShape number) stands = stands
+cells_mean text (cell.PinTwice number) stands = stands
+cells_mean text (cell.TableSize number) stands = stands
+cells_mean text (cell.Limit number) stands = stands
+cells_mean text (cell.CellTwice number) stands = stands
+cells_mean text cell.NoMemory stands = tt
+
+no_cell_memory : (fault : CellsFault) → cell_fault_of fault ≡ cell.NoMemory → ⊥
+no_cell_memory cells.NotJson same = cc
+no_cell_memory cells.Version same = cc
+no_cell_memory (cells.BadShape number) same = cc
+no_cell_memory (cells.PinTwice number) same = cc
+no_cell_memory (cells.TableSize number) same = cc
+no_cell_memory (cells.Limit number) same = cc
+no_cell_memory (cells.CellTwice number) same = cc
+
+-- a text with a fault stands for no table of cells
+pub no_table : tables.EachTextHasOneAnswer → (text : List ℕ) (fault : CellsFault) → HasCellsFault text fault → HasCells text → ⊥
+no_table law text fault stands has =
+    let left : Result (List Cell) CellFault = Err (cell_fault_of fault) in
+    let right : Result (List Cell) CellFault = Ok has.cells in
+    let memory : Result (List Cell) CellFault = Err cell.NoMemory in
+    let left-kept : left ≢ memory = λ e. no_cell_memory fault cc in
+    let right-kept : right ≢ memory = λ e. cc in
+    let same : left ≡ right = law text left right left-kept right-kept stands has.stands in
     cc

@@ -14,6 +14,7 @@ use Rattle.verilog_tree.specs.Grammar.{IsSource}
 use Rattle.verilog_tree.specs.Laws.{HasOneTree}
 use Rattle.verilog_tree.specs.Source.{Explains, FirstFault, dives}
 use Rattle.verilog_tree.specs.Terminal.{terminal_at}
+use Rattle.cell_table.specs.Table as tables
 use Rattle.clock_rank.specs.Answers.{CyclesAreUnranked}
 use Rattle.elaborator.specs.GateDesign as designs
 use Rattle.design_core.specs.declared.parts.Parts.{Parts}
@@ -33,10 +34,10 @@ use Rattle.emu_app.specs.declared.what.What.TheVariants.{Design, Cells, Groups, 
 use Rattle.emu_app.specs.What.{order}
 use Rattle.emu_app.specs.Fetching.{Texts}
 use Rattle.emu_app.specs.Faults.{HasFault, HasNoTree}
-use Rattle.emu_app.specs.Forms.{AreTokens, IsTreeOf, SaysDesign}
-use Rattle.emu_app.specs.Reading.{AreRead, FirstUnread, IsRead, NotYetMeans, Refuses, RefusedTextsStandForNothing, StandFor, StandForSettle}
+use Rattle.emu_app.specs.Forms.{AreTokens, HasCells, IsTreeOf, SaysDesign}
+use Rattle.emu_app.specs.Reading.{AreRead, FirstUnread, GoesRound, IsRead, NotYetMeans, Refuses, RefusedTextsStandForNothing, StandFor, StandForSettle}
 use Rattle.emu_app.proofs.OneCases.{case_design, one_design}
-use Rattle.emu_app.proofs.Readings.{one_answer, tokens_once}
+use Rattle.emu_app.proofs.Readings.{no_table, one_answer, tokens_once}
 
 -- tokens with a first fault have no tree
 first_fault_no_tree : (ts : List Terminal) (p : ℕ) (tree : Source) → FirstFault ts p → IsSource ts tree → ⊥
@@ -87,13 +88,14 @@ no_tree_with_fault law text TooDeep at tokens tree has is = no_tree_where law te
 record SaysFirst (command : Command) (top : List ℕ) (texts : Texts) : Type 0 where
   design : Parts
   says : SaysDesign top (texts Design) design
+  cells : HasCells (texts Cells)
   ranked : IsRanked design
   all : (what : What) → Reads command what → order Design < order what → IsRead top texts what
 
 -- what a case gives
 read_case : (top : List ℕ) (texts : Texts) (c : Case) → StandFor top texts c → (what : What) → order what < 7 → order Design < order what → IsRead top texts what
 read_case top texts c s Design early later = absurd (omega (arith, later))
-read_case top texts c s Cells early later = tt
+read_case top texts c s Cells early later = s.board_says.first.cells
 read_case top texts c s Groups early later = s.board_says.first.groups
 read_case top texts c s Board early later = (s.chip, s.board_says.board)
 read_case top texts c s Netlist early later = (s.results_say.chip, s.results_say.says_netlist)
@@ -105,7 +107,7 @@ read_case top texts c s Events early later = absurd (omega (arith, early))
 -- what a design with a recording gives
 read_run : (top : List ℕ) (texts : Texts) (p : Parts) (r : Recording) → StandForSettle top texts p r → (what : What) → settle_place what < 5 → order Design < order what → IsRead top texts what
 read_run top texts p r s Design reads later = absurd (omega (arith, later))
-read_run top texts p r s Cells reads later = tt
+read_run top texts p r s Cells reads later = s.first.cells
 read_run top texts p r s Groups reads later = s.first.groups
 read_run top texts p r s Board reads later = absurd (omega (arith, reads))
 read_run top texts p r s Netlist reads later = absurd (omega (arith, reads))
@@ -117,7 +119,7 @@ read_run top texts p r s Events reads later = (p, r.events, s.first.design, s.re
 -- what a case with a recording of its design gives
 read_replay : (top : List ℕ) (texts : Texts) (c : Case) (r : Recording) → StandFor top texts c → RecordingSays texts c.design r → (what : What) → order Design < order what → IsRead top texts what
 read_replay top texts c r s recorded Design later = absurd (omega (arith, later))
-read_replay top texts c r s recorded Cells later = tt
+read_replay top texts c r s recorded Cells later = s.board_says.first.cells
 read_replay top texts c r s recorded Groups later = s.board_says.first.groups
 read_replay top texts c r s recorded Board later = (s.chip, s.board_says.board)
 read_replay top texts c r s recorded Netlist later = (s.results_say.chip, s.results_say.says_netlist)
@@ -128,36 +130,39 @@ read_replay top texts c r s recorded Events later = (c.design, r.events, case_de
 
 says_first : (command : Command) (top : List ℕ) (texts : Texts) → AreRead command top texts → SaysFirst command top texts
 says_first Check top texts (c, s) =
-    record { design = s.design; says = s.board_says.first.design; ranked = s.board_says.first.ranked; all = λ what reads later. read_case top texts c s what reads later }
+    record { design = s.design; says = s.board_says.first.design; cells = s.board_says.first.cells; ranked = s.board_says.first.ranked; all = λ what reads later. read_case top texts c s what reads later }
 says_first Settle top texts (p, r, s) =
-    record { design = p; says = s.first.design; ranked = s.first.ranked; all = λ what reads later. read_run top texts p r s what reads later }
+    record { design = p; says = s.first.design; cells = s.first.cells; ranked = s.first.ranked; all = λ what reads later. read_run top texts p r s what reads later }
 says_first Replay top texts (c, r, s, recorded) =
-    record { design = s.design; says = s.board_says.first.design; ranked = s.board_says.first.ranked; all = λ what reads later. read_replay top texts c r s recorded what later }
+    record { design = s.design; says = s.board_says.first.design; cells = s.board_says.first.cells; ranked = s.board_says.first.ranked; all = λ what reads later. read_replay top texts c r s recorded what later }
 
 not_first : (command : Command) (top : List ℕ) (texts : Texts) (what : What) → FirstUnread command top texts what → SaysFirst command top texts → ⊥
 not_first command top texts what first s = first.here (s.all what first.reads first.later)
 
 not_yet : (command : Command) (top : List ℕ) (texts : Texts) (what : What) → NotYetMeans command top texts what → SaysFirst command top texts → ⊥
-not_yet command top texts Design means s = means.none s.design s.says
-not_yet command top texts Cells means s = not_first command top texts Cells means s
+not_yet command top texts Design means s = means.1.none s.design s.says
+not_yet command top texts Cells means s = means
 not_yet command top texts Groups means s = not_first command top texts Groups means s
-not_yet command top texts Board means s = not_first command top texts Board means s
+not_yet command top texts Board means s = not_first command top texts Board means.1 s
 not_yet command top texts Netlist means s = not_first command top texts Netlist means s
 not_yet command top texts ScheduleText means s = not_first command top texts ScheduleText means s
 not_yet command top texts Map means s = not_first command top texts Map means s
 not_yet command top texts Opening means s = not_first command top texts Opening means s
 not_yet command top texts Events means s = not_first command top texts Events means s
 
-not_refused : reading.EachTextHasOneAnswer → HasOneTree → designs.TreesTellDesignsApart → CyclesAreUnranked
+not_refused : reading.EachTextHasOneAnswer → HasOneTree → tables.EachTextHasOneAnswer → designs.TreesTellDesignsApart → CyclesAreUnranked
     → (command : Command) (top : List ℕ) (texts : Texts) (why : Refusal) → Refuses command top texts why → SaysFirst command top texts → ⊥
-not_refused law trees apart cycles command top texts (refusal.Faulty fault) means s =
+not_refused law trees tables-law apart cycles command top texts (refusal.Faulty fault) means s =
     no_tree_with_fault law (texts Design) fault.kind fault.at s.says.tokens s.says.tree means s.says.is_tree
-not_refused law trees apart cycles command top texts (refusal.Cycle names) means s =
-    let same : s.design ≡ means.design = one_design law trees apart top (texts Design) s.design means.design s.says means.says in
-    cycles means.design means.cycle.nodes means.cycle.is_cycle (subst IsRanked same s.ranked)
-not_refused law trees apart cycles command top texts (refusal.NotYet what) means s = not_yet command top texts what means s
+not_refused law trees tables-law apart cycles command top texts (refusal.Cells fault) means s = no_table tables-law (texts Cells) fault means.1 s.cells
+not_refused law trees tables-law apart cycles command top texts (refusal.Cycle names) means s =
+    let round : GoesRound top (texts Design) names = means.1 in
+    let same : s.design ≡ round.design = one_design law trees apart top (texts Design) s.design round.design s.says round.says in
+    cycles round.design round.cycle.nodes round.cycle.is_cycle (subst IsRanked same s.ranked)
+not_refused law trees tables-law apart cycles command top texts (refusal.Board fault) means s = not_first command top texts Board means.1 s
+not_refused law trees tables-law apart cycles command top texts (refusal.NotYet what) means s = not_yet command top texts what means s
 
 -- texts that a command refuses stand for nothing
-pub refused_stand_for_nothing : reading.EachTextHasOneAnswer → HasOneTree → designs.TreesTellDesignsApart → CyclesAreUnranked → RefusedTextsStandForNothing
-refused_stand_for_nothing law trees apart cycles command top texts why means are =
-    not_refused law trees apart cycles command top texts why means (says_first command top texts are)
+pub refused_stand_for_nothing : reading.EachTextHasOneAnswer → HasOneTree → tables.EachTextHasOneAnswer → designs.TreesTellDesignsApart → CyclesAreUnranked → RefusedTextsStandForNothing
+refused_stand_for_nothing law trees tables-law apart cycles command top texts why means are =
+    not_refused law trees tables-law apart cycles command top texts why means (says_first command top texts are)

@@ -43,6 +43,5 @@ pub record HasCycle (p : Parts) (texts : List (List ℕ)) : Type 0 where
 abbrev pub RankMeans : Parts → Result RankedDesign Unread → Type 0
 RankMeans p (Ok r) = (r.design ≡ p) × IsInOrder p r.order
 RankMeans p (Err (unread.Refused (refusal.Cycle texts))) = HasCycle p texts
-RankMeans p (Err (unread.Refused (refusal.Faulty fault))) = ⊥
-RankMeans p (Err (unread.Refused (refusal.NotYet what))) = ⊥
+RankMeans p (Err (unread.Refused other)) = ⊥
 RankMeans p (Err unread.NoMemory) = Unit {0}

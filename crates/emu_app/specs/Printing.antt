@@ -1,9 +1,13 @@
 -- The text that each answer prints, and its status.
 -- The rule is told in docs/FORMATS.md, "Printed texts".
-use Rattle.std.specs.Prelude.{ℕ, List, [], ◌∷◌, ◌++◌, codes, decimal, length, flat_map}
+use Rattle.std.specs.Prelude.{ℕ, List, [], ◌∷◌, ◌++◌, Some, None, codes, decimal, length, flat_map}
 use Rattle.emu_machine.specs.declared.schedule.Frame.{Frame}
 use Rattle.emu_app.specs.declared.answer.Answer.{Answer}
 use Rattle.emu_app.specs.declared.answer.Answer.TheVariants as answer
+use Rattle.emu_app.specs.declared.refusal.BoardsFault.{BoardsFault}
+use Rattle.emu_app.specs.declared.refusal.BoardsFault.TheVariants as board
+use Rattle.emu_app.specs.declared.refusal.CellsFault.{CellsFault}
+use Rattle.emu_app.specs.declared.refusal.CellsFault.TheVariants as cells
 use Rattle.emu_app.specs.declared.refusal.TextFault.{TextFault}
 use Rattle.emu_app.specs.declared.refusal.TextFault.TheVariants.{BadByte, OpenComment, OpenAttribute, BadNumber, UnknownDigit, Directive, Expected, Unsupported, TooDeep}
 use Rattle.emu_app.specs.declared.refusal.Fault.{Fault}
@@ -41,6 +45,25 @@ fault_name TooDeep = codes "TooDeep "
 abbrev pub fault_text_of : Fault → List ℕ
 fault_text_of fault = line (codes "refused design " ++ fault_name fault.kind ++ decimal fault.at)
 
+-- a fault of cells, with the number of its cell
+abbrev pub cells_words : CellsFault → List ℕ
+cells_words cells.NotJson = codes "NotJson"
+cells_words cells.Version = codes "Version"
+cells_words (cells.BadShape None) = codes "BadShape"
+cells_words (cells.BadShape (Some cell)) = codes "BadShape " ++ decimal cell
+cells_words (cells.PinTwice cell) = codes "PinTwice " ++ decimal cell
+cells_words (cells.TableSize cell) = codes "TableSize " ++ decimal cell
+cells_words (cells.Limit cell) = codes "Limit " ++ decimal cell
+cells_words (cells.CellTwice cell) = codes "CellTwice " ++ decimal cell
+
+-- a fault of a board, with the number of its wire
+abbrev pub board_words : BoardsFault → List ℕ
+board_words board.NotJson = codes "NotJson"
+board_words board.BadShape = codes "BadShape"
+board_words board.Version = codes "Version"
+board_words board.Limit = codes "Limit"
+board_words (board.BadWire wire) = codes "BadWire " ++ decimal wire.place
+
 -- `refused rank Cycle NAME ..`
 abbrev pub cycle_text : List (List ℕ) → List ℕ
 cycle_text names = line (codes "refused rank Cycle" ++ flat_map (λ name. codes " " ++ name) names)
@@ -48,6 +71,8 @@ cycle_text names = line (codes "refused rank Cycle" ++ flat_map (λ name. codes 
 -- the text of a refusal
 abbrev pub refusal_text : Refusal → List ℕ
 refusal_text (refusal.Faulty fault) = fault_text_of fault
+refusal_text (refusal.Cells fault) = line (codes "refused cells " ++ cells_words fault)
+refusal_text (refusal.Board fault) = line (codes "refused board " ++ board_words fault)
 refusal_text (refusal.Cycle names) = cycle_text names
 refusal_text (refusal.NotYet what) = line (codes "refused " ++ label what ++ codes " NotYet")
 

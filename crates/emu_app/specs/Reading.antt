@@ -5,6 +5,8 @@ use Rattle.design_core.specs.declared.parts.Parts.{Parts}
 use Rattle.design_core.specs.Dependency.{IsRanked}
 use Rattle.design_core.specs.declared.values.Event.{Event}
 use Rattle.design_core.specs.declared.values.PortBit.{PortBit}
+use Rattle.cell_table.specs.declared.cell.Cell.{Cell}
+use Rattle.cell_table.specs.Table.{Stands}
 use Rattle.domain_groups.specs.NoGroups.{SaysNoGroups}
 use Rattle.event_replay.specs.Events.{SaysEvents}
 use Rattle.event_replay.specs.Openings.{SaysOpening}
@@ -31,9 +33,9 @@ use Rattle.emu_app.specs.declared.refusal.Unread.TheVariants as unread
 use Rattle.emu_app.specs.What.{order}
 use Rattle.emu_app.specs.Command.{Reads}
 use Rattle.emu_app.specs.Fetching.{Texts}
-use Rattle.emu_app.specs.Faults.{HasFault}
+use Rattle.emu_app.specs.Faults.{HasBoardFault, HasCellsFault, HasFault}
 use Rattle.emu_app.specs.Cycles.{HasCycle}
-use Rattle.emu_app.specs.Forms.{IsTreeOf, HasTree, SaysDesign, SaysBoard, SaysNetlist}
+use Rattle.emu_app.specs.Forms.{IsTreeOf, HasCells, HasTree, SaysDesign, SaysBoard, SaysNetlist, SaysOtherBoard}
 use Rattle.emu_app.specs.Runs.{DesignSays, RecordingSays}
 
 -- the text says nothing of its form
@@ -45,27 +47,45 @@ NoneSaid {X} Says = (x : X) → Says x → ⊥
 abbrev pub Means : {X : Type 0} → What → (X → Type 0) → Result X Unread → Type 0
 Means what Says (Ok x) = Says x
 Means what Says (Err (unread.Refused (refusal.NotYet other))) = (other ≡ what) × NoneSaid Says
-Means what Says (Err (unread.Refused (refusal.Faulty fault))) = ⊥
-Means what Says (Err (unread.Refused (refusal.Cycle texts))) = ⊥
+Means what Says (Err (unread.Refused why)) = ⊥
 Means what Says (Err unread.NoMemory) = Unit {0}
 
 -- by the answer of reading a design text into its tree
 abbrev pub TreeMeans : List ℕ → Result Parsed Unread → Type 0
 TreeMeans text (Ok parsed) = IsTreeOf text parsed.tokens parsed.tree
 TreeMeans text (Err (unread.Refused (refusal.Faulty fault))) = HasFault text fault.kind fault.at
-TreeMeans text (Err (unread.Refused (refusal.Cycle texts))) = ⊥
-TreeMeans text (Err (unread.Refused (refusal.NotYet what))) = ⊥
+TreeMeans text (Err (unread.Refused why)) = ⊥
 TreeMeans text (Err unread.NoMemory) = Unit {0}
 
--- by the answer of reading a design text; its form is asked for only where it has a tree
+-- by the answer of reading a table of cells
+abbrev pub CellsMean : List ℕ → Result (List Cell) Unread → Type 0
+CellsMean text (Ok cells) = Stands text (Ok cells)
+CellsMean text (Err (unread.Refused (refusal.Cells fault))) = HasCellsFault text fault
+CellsMean text (Err (unread.Refused why)) = ⊥
+CellsMean text (Err unread.NoMemory) = Unit {0}
+
+-- by the answer of reading a design out of the tree of its text
 abbrev pub DesignMeans : List ℕ → List ℕ → Result Parts Unread → Type 0
 DesignMeans top text (Ok p) = SaysDesign top text p
-DesignMeans top text (Err (unread.Refused (refusal.Faulty fault))) = HasFault text fault.kind fault.at
-DesignMeans top text (Err (unread.Refused (refusal.Cycle texts))) = ⊥
 DesignMeans top text (Err (unread.Refused (refusal.NotYet what))) = (what ≡ Design) × HasTree text × NoneSaid (SaysDesign top text)
+DesignMeans top text (Err (unread.Refused why)) = ⊥
 DesignMeans top text (Err unread.NoMemory) = Unit {0}
 
--- the texts, with this name for the top, say this design, which is ranked, and this board, and no groups
+-- by the answer of reading a board; one of several chips, or with a wire, is no fault of the text
+abbrev pub BoardMeans : List ℕ → Result OneChip Unread → Type 0
+BoardMeans text (Ok chip) = SaysBoard text chip
+BoardMeans text (Err (unread.Refused (refusal.Board fault))) = HasBoardFault text fault
+BoardMeans text (Err (unread.Refused (refusal.NotYet what))) = (what ≡ Board) × SaysOtherBoard text
+BoardMeans text (Err (unread.Refused why)) = ⊥
+BoardMeans text (Err unread.NoMemory) = Unit {0}
+
+-- the texts, with this name for the top, say this design, and a table of cells
+pub record FirstSay (top : List ℕ) (texts : Texts) (p : Parts) : Type 0 where
+  pub design : SaysDesign top (texts Design) p
+  pub cells : HasCells (texts Cells)
+
+-- the texts, with this name for the top, say this design, which is ranked, a table of cells, no groups, and
+-- this board
 pub record BoardSays (top : List ℕ) (texts : Texts) (p : Parts) (chip : OneChip) : Type 0 where
   pub first : DesignSays top texts p
   pub board : SaysBoard (texts Board) chip
@@ -114,11 +134,11 @@ pub record StandForOneReplay (top : List ℕ) (texts : Texts) (c : Case) (r : Re
   pub recorded : RecordingSays texts c.design r
   pub one : (other : Recording) → RecordingSays texts c.design other → other ≡ r
 
--- A text is of the form that is read so far. That of the cells is not read, a map is that of a netlist, and an
--- opening and events are those of a design.
+-- A text is of the form that is read so far. A map is that of a netlist, and an opening and events are those
+-- of a design.
 abbrev pub IsRead : List ℕ → Texts → What → Type 0
 IsRead top texts Design = (p : Parts) × SaysDesign top (texts Design) p × IsRanked p
-IsRead top texts Cells = Unit {0}
+IsRead top texts Cells = HasCells (texts Cells)
 IsRead top texts Groups = SaysNoGroups (texts Groups)
 IsRead top texts Board = (chip : OneChip) × SaysBoard (texts Board) chip
 IsRead top texts Netlist = (chip : Chip) × SaysNetlist (texts Netlist) chip
@@ -149,16 +169,23 @@ pub record GoesRound (top text : List ℕ) (names : List (List ℕ)) : Type 0 wh
   pub says : SaysDesign top text design
   pub cycle : HasCycle design names
 
--- why a text is not of the form that is read so far
+-- Why a text is not of the form that is read so far. The design text has a tree, and a table of cells is read
+-- before the tree is asked for a design; a board is one, and of several chips or with a wire; of all others
+-- that are not of their form this is the first.
 abbrev pub NotYetMeans : Command → List ℕ → Texts → What → Type 0
-NotYetMeans command top texts Design = HasNoDesign top (texts Design)
+NotYetMeans command top texts Design = HasCells (texts Cells) × HasNoDesign top (texts Design)
+NotYetMeans command top texts Cells = ⊥
+NotYetMeans command top texts Board = SaysOtherBoard (texts Board) × FirstUnread command top texts Board
 NotYetMeans command top texts other = FirstUnread command top texts other
 
--- Why the texts are refused: the design text has no tree, or the design has a cycle, or a text is not
--- of its form.
+-- Why the texts are refused, in the order of reading: the design text has no tree; or it has one, and the
+-- cells are no table; or they are one, and the design has a cycle; or the texts before it are read, and the
+-- board is none; or a text is not of its form.
 abbrev pub Refuses : Command → List ℕ → Texts → Refusal → Type 0
 Refuses command top texts (refusal.Faulty fault) = HasFault (texts Design) fault.kind fault.at
-Refuses command top texts (refusal.Cycle names) = GoesRound top (texts Design) names
+Refuses command top texts (refusal.Cells fault) = HasTree (texts Design) × HasCellsFault (texts Cells) fault
+Refuses command top texts (refusal.Cycle names) = HasCells (texts Cells) × GoesRound top (texts Design) names
+Refuses command top texts (refusal.Board fault) = HasBoardFault (texts Board) fault × FirstUnread command top texts Board
 Refuses command top texts (refusal.NotYet what) = NotYetMeans command top texts what
 
 -- by the answer of reading several texts: what they say together, or why they are refused

@@ -24,13 +24,14 @@ use Rattle.event_replay.specs.Settings.{AreInputBits}
 use Rattle.emu_app.specs.declared.answer.Answer.{Answer}
 use Rattle.emu_app.specs.declared.answer.Answer.TheVariants as answer
 use Rattle.emu_app.specs.declared.recording.Recording.{Recording}
-use Rattle.emu_app.specs.declared.what.What.TheVariants.{Design, Groups, Opening, Events}
+use Rattle.emu_app.specs.declared.what.What.TheVariants.{Design, Cells, Groups, Opening, Events}
 use Rattle.emu_app.specs.Fetching.{Texts}
-use Rattle.emu_app.specs.Forms.{SaysDesign}
+use Rattle.emu_app.specs.Forms.{HasCells, SaysDesign}
 
--- the texts say this design, which is ranked, and no groups
+-- the texts say this design, which is ranked, a table of cells, and no groups
 pub record DesignSays (top : List ℕ) (texts : Texts) (p : Parts) : Type 0 where
   pub design : SaysDesign top (texts Design) p
+  pub cells : HasCells (texts Cells)
   pub ranked : IsRanked p
   pub groups : SaysNoGroups (texts Groups)
 

@@ -1,13 +1,14 @@
 //! What a command answers: a status and a text.
 
-ghost use Rattle.std.specs.Prelude.{◌++◌, ◌≡◌, IfOk, OnErr, OnOk};
-ghost use Rattle.emu_app.specs.Printing.{accepted_text, cycle_text, fault_name, fault_text_of, frame_line, line, status_of, text_of};
+ghost use Rattle.std.specs.Prelude.{◌++◌, ◌≡◌, IfOk, OnErr, OnOk, codes, decimal};
+ghost use Rattle.emu_app.specs.Printing.{accepted_text, board_words, cells_words, cycle_text, fault_name, fault_text_of, frame_line, line, refusal_text, status_of, text_of};
 
-use crate::refusal::{Fault, Refusal, TextFault};
+use crate::refusal::{BoardsFault, CellsFault, Fault, Refusal, TextFault};
 use crate::status::Status;
 use crate::what::What;
 use emu_io::{NoMemory, Text};
 use emu_machine::{Frame, Schedule};
+use id_arena::Key;
 use itoa::Buffer;
 use std::alloc::Global;
 
@@ -56,11 +57,7 @@ impl Answer {
             Answer::Accepted { schedule } => accepted_text(alloc, schedule.frames.as_slice()),
             Answer::Rejected => line(alloc, b"rejected", b"", b""),
             Answer::TooLarge(what) => line(alloc, b"refused ", what.label(), b" TooLarge"),
-            Answer::Refused(Refusal::Faulty(fault)) => fault_text(alloc, fault),
-            Answer::Refused(Refusal::Cycle(names)) => cycle_text(alloc, names.as_slice()),
-            Answer::Refused(Refusal::NotYet(what)) => {
-                line(alloc, b"refused ", what.label(), b" NotYet")
-            }
+            Answer::Refused(why) => refusal_text(alloc, why),
             Answer::ReadFault { name } => line(alloc, b"read fault ", name.bytes(), b""),
         }
     }
@@ -109,6 +106,63 @@ fn append_frame(text: &mut Vec<u8>, frame: &Frame) -> Result<(), NoMemory>
     append(text, b"\n")
 }
 
+/// The line of a refusal.
+fn refusal_text(alloc: Global, why: &Refusal) -> Result<Vec<u8>, NoMemory>
+    ensures { IfOk result (λ text. text.items ≡ refusal_text why.now) }
+{
+    match why {
+        Refusal::Faulty(fault) => fault_text(alloc, fault),
+        Refusal::Cells(fault) => cells_text(alloc, *fault),
+        Refusal::Board(fault) => board_text(alloc, *fault),
+        Refusal::Cycle(names) => cycle_text(alloc, names.as_slice()),
+        Refusal::NotYet(what) => line(alloc, b"refused ", what.label(), b" NotYet"),
+    }
+}
+
+/// A line of two pieces and a number.
+fn numbered(alloc: Global, first: &[u8], second: &[u8], number: u64) -> Result<Vec<u8>, NoMemory>
+    ensures { IfOk result (λ text. text.items ≡ line (first.now ++ second.now ++ decimal number)) }
+{
+    let mut buffer = Buffer::new();
+    let digits = buffer.format(number);
+    line(alloc, first, second, digits.as_bytes())
+}
+
+/// The line that names a fault of cells.
+fn cells_text(alloc: Global, fault: CellsFault) -> Result<Vec<u8>, NoMemory>
+    ensures { IfOk result (λ text. text.items ≡ line (codes "refused cells " ++ cells_words fault)) }
+{
+    let refused = b"refused cells ".as_slice();
+    match fault {
+        CellsFault::NotJson => line(alloc, refused, b"NotJson", b""),
+        CellsFault::Version => line(alloc, refused, b"Version", b""),
+        CellsFault::BadShape { cell: None } => line(alloc, refused, b"BadShape", b""),
+        CellsFault::BadShape { cell: Some(cell) } => {
+            numbered(alloc, refused, b"BadShape ", u64::from(cell))
+        }
+        CellsFault::PinTwice { cell } => numbered(alloc, refused, b"PinTwice ", u64::from(cell)),
+        CellsFault::TableSize { cell } => numbered(alloc, refused, b"TableSize ", u64::from(cell)),
+        CellsFault::Limit { cell } => numbered(alloc, refused, b"Limit ", u64::from(cell)),
+        CellsFault::CellTwice { cell } => numbered(alloc, refused, b"CellTwice ", u64::from(cell)),
+    }
+}
+
+/// The line that names a fault of a board.
+fn board_text(alloc: Global, fault: BoardsFault) -> Result<Vec<u8>, NoMemory>
+    ensures { IfOk result (λ text. text.items ≡ line (codes "refused board " ++ board_words fault)) }
+{
+    let refused = b"refused board ".as_slice();
+    match fault {
+        BoardsFault::NotJson => line(alloc, refused, b"NotJson", b""),
+        BoardsFault::BadShape => line(alloc, refused, b"BadShape", b""),
+        BoardsFault::Version => line(alloc, refused, b"Version", b""),
+        BoardsFault::Limit => line(alloc, refused, b"Limit", b""),
+        BoardsFault::BadWire { wire } => {
+            numbered(alloc, refused, b"BadWire ", u64::from(wire.place()))
+        }
+    }
+}
+
 /// The line of a cycle.
 fn cycle_text(alloc: Global, names: &[Text]) -> Result<Vec<u8>, NoMemory>
     ensures { IfOk result (λ text. text.items ≡ cycle_text names.now) }
@@ -144,12 +198,5 @@ fn fault_name(kind: TextFault) -> &'static [u8]
 fn fault_text(alloc: Global, fault: &Fault) -> Result<Vec<u8>, NoMemory>
     ensures { IfOk result (λ text. text.items ≡ fault_text_of fault.now) }
 {
-    let mut buffer = Buffer::new();
-    let place = buffer.format(fault.at);
-    line(
-        alloc,
-        b"refused design ",
-        fault_name(fault.kind),
-        place.as_bytes(),
-    )
+    numbered(alloc, b"refused design ", fault_name(fault.kind), fault.at)
 }

@@ -10,8 +10,7 @@ ghost use Rattle.emu_app.specs.Answers.{JudgeMeans};
 ghost use Rattle.emu_app.specs.Cases.{JudgesAll};
 ghost use Rattle.emu_app.specs.Command.{text_count};
 ghost use Rattle.emu_app.specs.Fetching.{AreWithin, texts_of};
-ghost use Rattle.emu_app.specs.Forms.{SaysDesign};
-ghost use Rattle.emu_app.specs.Reading.{AllMean, BoardSays};
+ghost use Rattle.emu_app.specs.Reading.{AllMean, BoardSays, FirstSay};
 
 use crate::answer::Answer;
 use crate::command::Command;
@@ -19,7 +18,6 @@ use crate::laws::texts_tell_cases_apart;
 use crate::plan_texts::OneChip;
 use crate::reading::{read_board_text, read_first, read_order, read_results};
 use crate::refusal::Unread;
-use crate::what::What;
 use accepted_law::acceptance::accepted_agrees;
 use design_core::Design;
 use emu_io::{List, NoMemory, Text};
@@ -63,7 +61,7 @@ fn read_board_texts(
     design: &Design,
 ) -> Result<OneChip, Unread>
     requires count { length texts.now ≡ text_count Command.Check }
-    requires before { SaysDesign top.now (texts_of Command.Check texts.now What.Design) design.now }
+    requires before { FirstSay top.now (texts_of Command.Check texts.now) design.now }
     ensures means { AllMean Command.Check top.now (texts_of Command.Check texts.now) (BoardSays top.now (texts_of Command.Check texts.now) design.now) result }
     ensures some { IfOk result (λ chip. 0 < chip.slots) }
 {

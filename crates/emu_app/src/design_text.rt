@@ -2,7 +2,7 @@
 
 ghost use Rattle.std.specs.Prelude.{◌<◌, ◌^◌, ◌≡◌, length};
 ghost use Rattle.emu_app.specs.Faults.{byte_of, lex_refusal, parse_refusal};
-ghost use Rattle.emu_app.specs.Forms.{AreTokens};
+ghost use Rattle.emu_app.specs.Forms.{AreTokens, IsTreeOf};
 ghost use Rattle.emu_app.specs.Reading.{DesignMeans, TreeMeans};
 
 use crate::refusal::{Fault, Refusal, TextFault, Unread};
@@ -91,14 +91,13 @@ pub fn read_tree(alloc: Global, text: &[u8]) -> Result<Parsed, Unread>
     }
 }
 
-/// The design that a text describes, or why it describes none.
-pub fn read_design(alloc: Global, top: &[u8], text: &[u8]) -> Result<Design, Unread>
-    requires { length text.now < 2 ^ 32 }
+/// The design that a text with this tree describes.
+pub fn read_design(alloc: Global, top: &[u8], text: &[u8], parsed: Parsed) -> Result<Design, Unread>
+    requires { IsTreeOf text.now parsed.tokens parsed.tree }
     ensures { DesignMeans top.now text.now result }
 {
     verilog_lex::each_text_has_one_answer();
     verilog_tree::has_one_tree();
-    let parsed = read_tree(alloc, text)?;
     match read_gates(alloc, text, parsed.tokens, parsed.tree, top) {
         Ok(design) => Ok(design),
         Err(ElabFault::NotYet) => Err(Unread::Refused(Refusal::NotYet(What::Design))),

@@ -40,6 +40,7 @@ pub fn refused_texts_stand_for_nothing()
 {
     verilog_lex::each_text_has_one_answer();
     verilog_tree::has_one_tree();
+    cell_table::each_text_has_one_answer();
     elaborator::trees_tell_designs_apart();
     clock_rank::cycles_are_unranked();
 }

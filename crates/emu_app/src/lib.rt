@@ -9,6 +9,7 @@
 #![tactic(auto)]
 
 mod answer;
+mod cells_text;
 mod check;
 mod command;
 mod design_text;

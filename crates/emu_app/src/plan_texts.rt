@@ -2,13 +2,13 @@
 
 ghost use Rattle.std.specs.Prelude.{◌<◌, ◌≡◌, ◌∷◌, [], ℕ, IfOk, MatchOption};
 ghost use Rattle.domain_groups.specs.NoGroups.{SaysNoGroups};
-ghost use Rattle.emu_app.specs.Forms.{SaysBoard};
-ghost use Rattle.emu_app.specs.Reading.{Means};
+ghost use Rattle.emu_app.specs.Faults.{board_refusal};
+ghost use Rattle.emu_app.specs.Reading.{BoardMeans, Means};
 
-use crate::refusal::{Refusal, Unread};
+use crate::refusal::{BoardsFault, Refusal, Unread};
 use crate::what::What;
 use board_model::{Board, BoardFault, read_board};
-use domain_groups::{GroupFault, read_no_groups};
+use domain_groups::{NoGroupsFault, read_no_groups};
 use id_arena::{ChipId, Key};
 use std::alloc::Global;
 
@@ -18,8 +18,8 @@ pub fn read_groups(alloc: Global, text: &[u8]) -> Result<(), Unread>
 {
     match read_no_groups(alloc, text) {
         Ok(()) => Ok(()),
-        Err(GroupFault::NotYet) => Err(Unread::Refused(Refusal::NotYet(What::Groups))),
-        Err(GroupFault::NoMemory) => Err(Unread::NoMemory),
+        Err(NoGroupsFault::NotYet) => Err(Unread::Refused(Refusal::NotYet(What::Groups))),
+        Err(NoGroupsFault::NoMemory) => Err(Unread::NoMemory),
     }
 }
 
@@ -46,22 +46,37 @@ fn one_chip(board: &Board) -> Option<OneChip>
     }
 }
 
-/// The board of one chip and no wire that a text describes.
+/// The answer to a text that has this fault.
+fn faulty(fault: BoardsFault) -> Unread
+    ensures { result ≡ Unread.Refused (Refusal.Board fault) }
+{
+    Unread::Refused(Refusal::Board(fault))
+}
+
+/// The answer to a text of which the reader of boards tells this fault.
+fn board_refusal(fault: BoardFault) -> Unread
+    ensures { result ≡ board_refusal fault }
+{
+    match fault {
+        BoardFault::NotJson => faulty(BoardsFault::NotJson),
+        BoardFault::BadShape => faulty(BoardsFault::BadShape),
+        BoardFault::Version => faulty(BoardsFault::Version),
+        BoardFault::Limit => faulty(BoardsFault::Limit),
+        BoardFault::BadWire { wire } => faulty(BoardsFault::BadWire { wire }),
+        BoardFault::NoMemory => Unread::NoMemory,
+    }
+}
+
+/// The board of one chip and no wire that a text describes, its first fault, or that it is another board.
 pub fn read_one_chip(alloc: Global, text: &[u8]) -> Result<OneChip, Unread>
-    ensures means { Means What.Board (SaysBoard text.now) result }
+    ensures means { BoardMeans text.now result }
     ensures some { IfOk result (λ chip. 0 < chip.slots) }
 {
-    board_model::each_text_has_one_answer();
     match read_board(alloc, text) {
         Ok(board) => match one_chip(&board) {
             Some(chip) => Ok(chip),
             None => Err(Unread::Refused(Refusal::NotYet(What::Board))),
         },
-        Err(fault) => {
-            if fault == BoardFault::NoMemory {
-                return Err(Unread::NoMemory);
-            }
-            Err(Unread::Refused(Refusal::NotYet(What::Board)))
-        }
+        Err(fault) => Err(board_refusal(fault)),
     }
 }

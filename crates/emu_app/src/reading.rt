@@ -5,11 +5,12 @@ ghost use Rattle.emu_machine.specs.Plain.{IsPlainResults};
 ghost use Rattle.emu_app.specs.Command.{Reads, text_count};
 ghost use Rattle.emu_app.specs.Fetching.{AreWithin, texts_of};
 ghost use Rattle.emu_app.specs.Forms.{SaysDesign};
-ghost use Rattle.emu_app.specs.Reading.{AllMean, BoardSays, EarlierAreRead, ResultsSay};
+ghost use Rattle.emu_app.specs.Reading.{AllMean, BoardSays, EarlierAreRead, FirstSay, ResultsSay};
 ghost use Rattle.emu_app.specs.Runs.{DesignSays, HasInputBits, RecordingSays};
 
+use crate::cells_text::read_table;
 use crate::command::Command;
-use crate::design_text::read_design;
+use crate::design_text::{read_design, read_tree};
 use crate::plan_texts::{OneChip, read_groups, read_one_chip};
 use crate::ranking::rank_design;
 use crate::recording::{Recording, read_event_lines, read_inputs};
@@ -31,7 +32,8 @@ pub fn text_at(command: Command, texts: &List<Text>, what: What) -> &[u8]
     texts.get(command.place_of(what)).bytes()
 }
 
-/// The design that the texts say.
+/// The design that the texts say, where they say a table of cells. The table is read when the design has its
+/// tree, before this is asked for a design.
 pub fn read_first(
     alloc: Global,
     command: Command,
@@ -40,10 +42,14 @@ pub fn read_first(
 ) -> Result<Design, Unread>
     requires count { length texts.now ≡ text_count command }
     requires within { AreWithin (texts_of command texts.now) }
-    requires reads { Reads command What.Design }
-    ensures { AllMean command top.now (texts_of command texts.now) (SaysDesign top.now (texts_of command texts.now What.Design)) result }
+    requires design { Reads command What.Design }
+    requires cells { Reads command What.Cells }
+    ensures { AllMean command top.now (texts_of command texts.now) (FirstSay top.now (texts_of command texts.now)) result }
 {
-    let design = read_design(alloc, top, text_at(command, texts, What::Design))?;
+    let text = text_at(command, texts, What::Design);
+    let parsed = read_tree(alloc, text)?;
+    let _cells = read_table(alloc, text_at(command, texts, What::Cells))?;
+    let design = read_design(alloc, top, text, parsed)?;
     Ok(design)
 }
 
@@ -57,7 +63,7 @@ pub fn read_order<'d>(
 ) -> Result<Ranked<'d>, Unread>
     requires count { length texts.now ≡ text_count command }
     requires groups { Reads command What.Groups }
-    requires before { SaysDesign top.now (texts_of command texts.now What.Design) design.now }
+    requires before { FirstSay top.now (texts_of command texts.now) design.now }
     ensures { AllMean command top.now (texts_of command texts.now) (λ ranked. (ranked.design ≡ design.now) × DesignSays top.now (texts_of command texts.now) design.now) result }
 {
     let ranked = rank_design(alloc, design)?;
@@ -79,6 +85,7 @@ pub fn read_board_text(
     ensures means { AllMean command top.now (texts_of command texts.now) (BoardSays top.now (texts_of command texts.now) design.now) result }
     ensures some { IfOk result (λ chip. 0 < chip.slots) }
 {
+    board_model::each_text_has_one_answer();
     let _design = design;
     let chip = read_one_chip(alloc, text_at(command, texts, What::Board))?;
     Ok(chip)

@@ -2,6 +2,7 @@
 
 use crate::what::What;
 use emu_io::{List, NoMemory, Text};
+use id_arena::WireId;
 
 /// What can be wrong with a design text that has no tree.
 #[derive(Clone, Copy, Debug, Drop, PartialEq, Eq)]
@@ -33,11 +34,49 @@ pub struct Fault {
     pub at: u64,
 }
 
+/// What can be wrong with a table of cells; `cell` is a cell's place in it, from 0.
+#[derive(Clone, Copy, Debug, Drop, PartialEq, Eq)]
+pub enum CellsFault {
+    /// The text is no JSON.
+    NotJson,
+    /// The version is neither 1 nor 2.
+    Version,
+    /// The table (None) or a cell is not of the form.
+    BadShape { cell: Option<u32> },
+    /// A cell names a pin twice.
+    PinTwice { cell: u32 },
+    /// The length of a table does not fit its inputs.
+    TableSize { cell: u32 },
+    /// A cell is beyond a limit.
+    Limit { cell: u32 },
+    /// An earlier cell has the name.
+    CellTwice { cell: u32 },
+}
+
+/// What can be wrong with a board.
+#[derive(Clone, Copy, Debug, Drop, PartialEq, Eq)]
+pub enum BoardsFault {
+    /// The text is no JSON.
+    NotJson,
+    /// It is not of the form.
+    BadShape,
+    /// The version is neither 1 nor 2.
+    Version,
+    /// A number is outside its limits.
+    Limit,
+    /// This wire is the first that does not join two chips.
+    BadWire { wire: WireId },
+}
+
 /// Why a text is refused.
 #[derive(Debug, Drop)]
 pub enum Refusal {
     /// The design text has this fault.
     Faulty(Fault),
+    /// The table of cells has this fault.
+    Cells(CellsFault),
+    /// The board has this fault.
+    Board(BoardsFault),
     /// The design's nodes go in a cycle, whose names these are.
     Cycle(List<Text>),
     /// This text is not of the form that is read so far.

@@ -18,8 +18,7 @@ ghost use Rattle.schedule_check.specs.Verdict.{named};
 ghost use Rattle.emu_app.specs.Answers.{Comes, ReplayMeans, TraceMeans};
 ghost use Rattle.emu_app.specs.Command.{text_count};
 ghost use Rattle.emu_app.specs.Fetching.{AreWithin, texts_of};
-ghost use Rattle.emu_app.specs.Forms.{SaysDesign};
-ghost use Rattle.emu_app.specs.Reading.{case_of, AllMean, ReplayedSays};
+ghost use Rattle.emu_app.specs.Reading.{case_of, AllMean, FirstSay, ReplayedSays};
 ghost use Rattle.emu_app.specs.Runs.{CanReplay, DesignSays, HasInputBits, IsMachineTrace, IsRun, IsUnfit, NoAnswer, opened_with};
 
 use crate::answer::Answer;
@@ -30,7 +29,6 @@ use crate::plan_texts::OneChip;
 use crate::reading::{read_board_text, read_first, read_order, read_recording, read_results};
 use crate::recording::{Recording, opening_with};
 use crate::refusal::Unread;
-use crate::what::What;
 use clock_rank::Ranked;
 use cycle_sim::{Loaded, Machine};
 use design_core::{Design, PortValues};
@@ -76,7 +74,7 @@ fn replay_design<O: Sink>(
 ) -> Result<Ending, StoreFault>
     requires count { length texts.now ≡ text_count Command.Replay }
     requires within { AreWithin (texts_of Command.Replay texts.now) }
-    requires says { SaysDesign top.now (texts_of Command.Replay texts.now What.Design) design.now }
+    requires says { FirstSay top.now (texts_of Command.Replay texts.now) design.now }
     ensures { Comes (ReplayMeans top.now (texts_of Command.Replay texts.now)) (TraceMeans Command.Replay top.now (texts_of Command.Replay texts.now)) (O.written out.old) (O.written out.new) (O.faults out.old) (O.faults out.new) result }
 {
     match read_order(alloc, Command::Replay, top, texts, design) {

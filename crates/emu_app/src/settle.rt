@@ -4,7 +4,7 @@ ghost use Rattle.std.specs.Prelude.{◌≡◌, ◌<◌, length};
 ghost use Rattle.emu_app.specs.Answers.{Comes, SettleMeans, TraceMeans};
 ghost use Rattle.emu_app.specs.Command.{text_count};
 ghost use Rattle.emu_app.specs.Fetching.{AreWithin, texts_of};
-ghost use Rattle.emu_app.specs.Forms.{SaysDesign};
+ghost use Rattle.emu_app.specs.Reading.{FirstSay};
 ghost use Rattle.emu_app.specs.Runs.{DesignSays, HasInputBits, IsHistoryTrace, NoAnswer};
 
 use crate::command::Command;
@@ -12,7 +12,6 @@ use crate::ending::{Ending, ending_of};
 use crate::laws::texts_tell_runs_apart;
 use crate::reading::{read_first, read_order, read_recording};
 use crate::recording::{Recording, opening_with};
-use crate::what::What;
 use clock_rank::Ranked;
 use design_core::Design;
 use emu_io::{List, Sink, StoreFault, Text};
@@ -46,7 +45,7 @@ fn settle_design<O: Sink>(
     out: &mut O,
 ) -> Result<Ending, StoreFault>
     requires count { length texts.now ≡ text_count Command.Settle }
-    requires says { SaysDesign top.now (texts_of Command.Settle texts.now What.Design) design.now }
+    requires says { FirstSay top.now (texts_of Command.Settle texts.now) design.now }
     ensures { Comes (SettleMeans top.now (texts_of Command.Settle texts.now)) (TraceMeans Command.Settle top.now (texts_of Command.Settle texts.now)) (O.written out.old) (O.written out.new) (O.faults out.old) (O.faults out.new) result }
 {
     match read_order(alloc, Command::Settle, top, texts, design) {

@@ -7,7 +7,7 @@ use Rattle.emu_app.proofs.check.judge_read.Goals as goal
 
 pub judge_case-requires-clause-plain : goal.judge_case-requires-clause-plain
 judge_case-requires-clause-plain c =
-    let says : SaysDesign c.args.top.now (texts_of Check c.args.texts.now Design) c.in_ok-design.design = c.in_ok-design.ensures in
+    let says : SaysDesign c.args.top.now (texts_of Check c.args.texts.now Design) c.in_ok-design.design = c.in_ok-design.ensures.design in
     c.gate_designs_are_plain.ensures (texts_of Check c.args.texts.now Design) says.tokens says.tree c.args.top.now c.in_ok-design.design says.describes
 
 pub judge_case-requires-clause-mapped : goal.judge_case-requires-clause-mapped

@@ -17,6 +17,6 @@ returns-in_err-read_groups c =
     let means : Means Groups (λ _. SaysNoGroups (texts Groups)) (Err c.in_err-read_groups.field-0.0) =
     subst (λ bytes. Means Groups (λ _. SaysNoGroups bytes) (Err c.in_err-read_groups.field-0.0)) c.text_at.ensures c.in_err-read_groups.ensures in
     subst (AllMean c.args.command c.args.top.now texts (λ (ranked : RankedDesign). (ranked.design ≡ c.args.design.now) × DesignSays c.args.top.now texts c.args.design.now)) (sym same)
-    (refused_as (λ _. SaysNoGroups (texts Groups)) (λ (ranked : RankedDesign). (ranked.design ≡ c.args.design.now) × DesignSays c.args.top.now texts c.args.design.now) c.args.command c.args.top.now texts Groups c.in_err-read_groups.field-0.0 means c.requires.groups (omega arith)
+    (refused_as (λ _. SaysNoGroups (texts Groups)) (λ (ranked : RankedDesign). (ranked.design ≡ c.args.design.now) × DesignSays c.args.top.now texts c.args.design.now) c.args.command c.args.top.now texts Groups c.in_err-read_groups.field-0.0 means (λ first. first) c.requires.groups (omega arith)
     (λ none read. none (tt {0}) read)
     (before_groups c.args.command c.args.top.now texts c.args.design.now c.requires.before ranked))

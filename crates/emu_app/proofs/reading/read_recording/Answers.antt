@@ -16,7 +16,7 @@ returns-in_err-inputs-clause-means c =
     let means : Means Opening (SaysOpening c.args.design.now.inputs (texts Opening)) (Err c.in_err-inputs.field-0.0) =
     subst (λ bytes. Means Opening (SaysOpening c.args.design.now.inputs bytes) (Err c.in_err-inputs.field-0.0)) c.text_at.ensures c.in_err-inputs.ensures.means in
     subst (AllMean c.args.command c.args.top.now texts (RecordingSays texts c.args.design.now)) (sym same)
-    (refused_as (SaysOpening c.args.design.now.inputs (texts Opening)) (RecordingSays texts c.args.design.now) c.args.command c.args.top.now texts Opening c.in_err-inputs.field-0.0 means c.requires.opening (omega arith)
+    (refused_as (SaysOpening c.args.design.now.inputs (texts Opening)) (RecordingSays texts c.args.design.now) c.args.command c.args.top.now texts Opening c.in_err-inputs.field-0.0 means (λ first. first) c.requires.opening (omega arith)
     (no_opening c.each_text_has_one_answer.ensures c.has_one_tree.ensures c.trees_tell_designs_apart.ensures c.args.top.now texts c.args.design.now c.requires.design)
     c.requires.before)
 
@@ -29,7 +29,7 @@ returns-in_err-events-clause-means c =
     let means : Means Events (SaysEvents c.args.design.now.inputs (texts Events)) (Err c.in_err-events.field-0.0) =
     subst (λ bytes. Means Events (SaysEvents c.args.design.now.inputs bytes) (Err c.in_err-events.field-0.0)) c.text_at-2.ensures c.in_err-events.ensures.means in
     subst (AllMean c.args.command c.args.top.now texts (RecordingSays texts c.args.design.now)) (sym same)
-    (refused_as (SaysEvents c.args.design.now.inputs (texts Events)) (RecordingSays texts c.args.design.now) c.args.command c.args.top.now texts Events c.in_err-events.field-0.0 means c.requires.events (omega arith)
+    (refused_as (SaysEvents c.args.design.now.inputs (texts Events)) (RecordingSays texts c.args.design.now) c.args.command c.args.top.now texts Events c.in_err-events.field-0.0 means (λ first. first) c.requires.events (omega arith)
     (no_events c.each_text_has_one_answer.ensures c.has_one_tree.ensures c.trees_tell_designs_apart.ensures c.args.top.now texts c.args.design.now c.requires.design)
     (before_events c.args.command c.args.top.now texts c.args.design.now c.in_ok-inputs.inputs c.requires.design opening c.requires.before))
 

@@ -16,7 +16,7 @@ returns-in_err-netlist-clause-means c =
     let means : Means Netlist (SaysNetlist (texts Netlist)) (Err c.in_err-netlist.field-0.0) =
     subst (λ bytes. Means Netlist (SaysNetlist bytes) (Err c.in_err-netlist.field-0.0)) c.text_at.ensures c.in_err-netlist.ensures in
     subst (AllMean c.args.command c.args.top.now texts (ResultsSay texts)) (sym same)
-    (refused_as (SaysNetlist (texts Netlist)) (ResultsSay texts) c.args.command c.args.top.now texts Netlist c.in_err-netlist.field-0.0 means c.requires.netlist (omega arith)
+    (refused_as (SaysNetlist (texts Netlist)) (ResultsSay texts) c.args.command c.args.top.now texts Netlist c.in_err-netlist.field-0.0 means (λ first. first) c.requires.netlist (omega arith)
     (λ none read. none read.0 read.1)
     (before_netlist c.args.command c.args.top.now texts c.args.design.now c.args.chip c.requires.before))
 
@@ -28,7 +28,7 @@ returns-in_err-schedule-clause-means c =
     let means : Means Schedule (SaysSchedule (texts Schedule)) (Err c.in_err-schedule.field-0.0) =
     subst (λ bytes. Means Schedule (SaysSchedule bytes) (Err c.in_err-schedule.field-0.0)) c.text_at-2.ensures c.in_err-schedule.ensures.means in
     subst (AllMean c.args.command c.args.top.now texts (ResultsSay texts)) (sym same)
-    (refused_as (SaysSchedule (texts Schedule)) (ResultsSay texts) c.args.command c.args.top.now texts Schedule c.in_err-schedule.field-0.0 means c.requires.schedule (omega arith)
+    (refused_as (SaysSchedule (texts Schedule)) (ResultsSay texts) c.args.command c.args.top.now texts Schedule c.in_err-schedule.field-0.0 means (λ first. first) c.requires.schedule (omega arith)
     (λ none read. none read.0 read.1)
     (before_schedule c.args.command c.args.top.now texts c.args.design.now c.args.chip c.requires.before c.in_ok-netlist.netlist netlist))
 
@@ -42,7 +42,7 @@ returns-in_err-map-clause-means c =
     let means : Means Map (SaysMap (texts Map) c.in_ok-netlist.netlist) (Err c.in_err-map.field-0.0) =
     subst (λ bytes. Means Map (SaysMap bytes c.in_ok-netlist.netlist) (Err c.in_err-map.field-0.0)) c.text_at-3.ensures c.in_err-map.ensures.means in
     subst (AllMean c.args.command c.args.top.now texts (ResultsSay texts)) (sym same)
-    (refused_as (SaysMap (texts Map) c.in_ok-netlist.netlist) (ResultsSay texts) c.args.command c.args.top.now texts Map c.in_err-map.field-0.0 means c.requires.map (omega arith)
+    (refused_as (SaysMap (texts Map) c.in_ok-netlist.netlist) (ResultsSay texts) c.args.command c.args.top.now texts Map c.in_err-map.field-0.0 means (λ first. first) c.requires.map (omega arith)
     (λ none read.
     let same-chip : read.0 ≡ c.in_ok-netlist.netlist = one_netlist c.each_text_has_one_answer.ensures c.plain_netlists_are_told_apart.ensures (texts Netlist) read.0 c.in_ok-netlist.netlist read.2 netlist in
     none read.1 (subst (λ chip. SaysMap (texts Map) chip read.1) same-chip read.3))

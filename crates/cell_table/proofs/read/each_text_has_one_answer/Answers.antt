@@ -1,0 +1,5 @@
+use Rattle.cell_table.proofs.OneAnswer.{one_answer}
+use Rattle.cell_table.proofs.read.each_text_has_one_answer.Goals as goal
+
+pub returns : goal.returns
+returns c = one_answer
