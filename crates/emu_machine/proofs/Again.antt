@@ -1,5 +1,5 @@
 -- Sends that use a wire again, and modules that are counted.
-use Rattle.std.proofs.Common.{◌≡◌, ◌<◌, ◌≤◌, ◌+◌, ◌↔◌, ℕ, zero, suc, arith, Bool, true, false, List, [], ◌∷◌, ◌++◌, length, map, take, refl, sym, ap, subst, ◌∙◌, inl, inr}
+use Rattle.std.proofs.Common.{◌≡◌, ◌<◌, ◌≤◌, ◌+◌, ℕ, zero, suc, arith, Bool, true, false, List, [], ◌∷◌, length, map, take, refl, ap, subst, ◌∙◌, inl, inr}
 use Rattle.std.specs.Prelude.{◌⊎◌, ◌==◌, ◌&&◌, ◌||◌, nat_le, nat_lt, if◌then◌else◌, Some, slice_get, Contains}
 use Rattle.std.specs.List.{list_any}
 use Rattle.std.specs.Option.{option_map_or}
@@ -11,16 +11,14 @@ use Rattle.id_arena.specs.declared.keys.ChipNetId.{ChipNetId}
 use Rattle.id_arena.specs.declared.keys.RegId.{RegId}
 use Rattle.id_arena.specs.declared.keys.WireId.{WireId}
 use Rattle.id_arena.specs.declared.wire.Wire.{Wire}
-use Rattle.design_core.specs.declared.node.NodeId.{NodeId}
-use Rattle.emu_machine.specs.declared.place.Place.{Place}
 use Rattle.emu_machine.specs.declared.place.Place.TheVariants as place
-use Rattle.emu_machine.specs.declared.place.Thing.{Thing}
 use Rattle.emu_machine.specs.declared.place.Thing.TheVariants as thing
 use Rattle.emu_machine.specs.declared.schedule.Action.{Action}
 use Rattle.emu_machine.specs.declared.schedule.Action.TheVariants.{Send}
 use Rattle.emu_machine.specs.declared.schedule.Slot.{Slot}
-use Rattle.emu_machine.specs.State.{actions_of, Timed, timed, timed_actions, is_under_way, is_last, slots_taken}
-use Rattle.emu_machine.specs.Acceptance.{Case, A1, Holds, FailsA1, UsesAgain, uses_thing, uses_of, same_thing, earlier_actions}
+use Rattle.emu_machine.specs.State.{actions_of, timed, timed_actions, is_under_way, is_last, slots_taken}
+use Rattle.emu_machine.specs.declared.rule.Rule.TheVariants.{A1}
+use Rattle.emu_machine.specs.Acceptance.{Holds, UsesAgain, uses_thing, uses_of, same_thing, earlier_actions}
 use Rattle.emu_machine.specs.Readings.{SendsUseAgain, SendsUseTwice, ModulesAreCounted}
 use Rattle.emu_machine.proofs.OneSlot.{from, map_in, tail_in, earlier_here}
 

@@ -1,2 +1,5 @@
 pub mod OneSlot
 mod Again
+mod Counted
+mod Entries
+mod Least

@@ -34,7 +34,9 @@ use Rattle.emu_machine.specs.declared.place.Place.{Place}
 use Rattle.emu_machine.specs.declared.place.Place.TheVariants as place
 use Rattle.emu_machine.specs.declared.place.Thing.{Thing}
 use Rattle.emu_machine.specs.declared.place.Thing.TheVariants as thing
-use Rattle.emu_machine.specs.declared.results.Results.{Results}
+use Rattle.emu_machine.specs.declared.rule.Rule.{Rule}
+use Rattle.emu_machine.specs.declared.rule.Rule.TheVariants.{A1, A2, A3, A4, A5, A6, A7, A8, A9, A10, A11, A12}
+use Rattle.emu_machine.specs.Results.{Results}
 use Rattle.emu_machine.specs.Netlist.{chip_at, through_gates, IsOnCycle}
 use Rattle.emu_machine.specs.State.{frame_slots, actions_of, Timed, timed, timed_actions, is_under_way, is_last, read_port, write_port}
 use Rattle.emu_machine.specs.Mapped.{subject, is_kept, chip_map}
@@ -51,20 +53,6 @@ pub record Case : Type 0 where
 -- for each frame, a test that tells the influence of its group
 abbrev pub Influences : Case → (ℕ → NodeId → Bool) → Type 0
 Influences c inside = (k : ℕ) (g : Group) → slice_get (all_groups c.design c.groups) k ≡ Some g → IsInfluence c.design g (inside k)
-
-pub data Rule : Type 0 where
-  A1 : Rule
-  A2 : Rule
-  A3 : Rule
-  A4 : Rule
-  A5 : Rule
-  A6 : Rule
-  A7 : Rule
-  A8 : Rule
-  A9 : Rule
-  A10 : Rule
-  A11 : Rule
-  A12 : Rule
 
 abbrev pub rule_number : Rule → ℕ
 rule_number A1 = 1

@@ -1,4 +1,7 @@
 pub mod Netlist
+pub mod Building
+pub mod Counts
+pub mod Results
 pub mod State
 pub mod Mapped
 pub mod Marks

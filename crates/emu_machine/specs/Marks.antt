@@ -26,7 +26,7 @@ use Rattle.emu_machine.specs.declared.schedule.Action.TheVariants.{Input, Load, 
 use Rattle.emu_machine.specs.declared.schedule.Slot.{Slot}
 use Rattle.emu_machine.specs.declared.map.Subject.{Subject}
 use Rattle.emu_machine.specs.declared.map.Subject.TheVariants.{Net, Up, Down, Take, Next, TakeWrite, Old, TakeRead}
-use Rattle.emu_machine.specs.declared.results.Results.{Results}
+use Rattle.emu_machine.specs.Results.{Results}
 use Rattle.emu_machine.specs.Netlist.{chip_at, is_chip_net, through_gates}
 use Rattle.emu_machine.specs.State.{State, net_value, on_register, read_port, write_port, first_given, actions_of, Timed, timed_actions, is_under_way, ending}
 use Rattle.emu_machine.specs.Mapped.{subject, subject_value, memory_of, design_read, is_kept}

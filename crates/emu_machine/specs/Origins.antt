@@ -31,7 +31,7 @@ use Rattle.emu_machine.specs.declared.netlist.EmuWrite.{EmuWrite}
 use Rattle.emu_machine.specs.declared.map.Subject.{Subject}
 use Rattle.emu_machine.specs.declared.map.Subject.TheVariants.{Net, Up, Down, Take, Next, TakeWrite, Old, TakeRead}
 use Rattle.emu_machine.specs.declared.map.MemMap.{MemMap}
-use Rattle.emu_machine.specs.declared.results.Results.{Results}
+use Rattle.emu_machine.specs.Results.{Results}
 use Rattle.emu_machine.specs.Mapped.{subject, flop_at, design_write, design_read}
 
 -- the values of so many inputs, one list for each row of a table, in the order of the rows

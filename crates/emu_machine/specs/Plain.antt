@@ -16,7 +16,7 @@ use Rattle.emu_machine.specs.declared.map.Subject.{Subject}
 use Rattle.emu_machine.specs.declared.map.Subject.TheVariants.{Net}
 use Rattle.emu_machine.specs.declared.map.ChipMap.{ChipMap}
 use Rattle.emu_machine.specs.declared.map.StateMap.{StateMap}
-use Rattle.emu_machine.specs.declared.results.Results.{Results}
+use Rattle.emu_machine.specs.Results.{Results}
 
 -- a `buf` or `not` between nets of the chip
 pub record IsPlainGate (chip : Chip) (gate : EmuGate) : Type 0 where

@@ -16,7 +16,7 @@ use Rattle.emu_machine.specs.declared.netlist.EmuWrite.{EmuWrite}
 use Rattle.emu_machine.specs.declared.schedule.Action.{Action}
 use Rattle.emu_machine.specs.declared.schedule.Action.TheVariants.{Input, Load, Send, Write, Read}
 use Rattle.emu_machine.specs.declared.schedule.Slot.{Slot}
-use Rattle.emu_machine.specs.declared.results.Results.{Results}
+use Rattle.emu_machine.specs.Results.{Results}
 use Rattle.emu_machine.specs.Netlist.{chip_at, is_chip_net, through_gates}
 
 -- What the machine holds: by chip and net the value of each register and of each read net, by chip,

@@ -5,16 +5,23 @@
 //! and what it means that a machine agrees with the design that it stands for.
 #![tactic(auto)]
 
+mod drivers;
+mod emu_net;
 mod laws;
 mod map;
 mod netlist;
 mod place;
 mod results;
+mod rule;
 mod schedule;
+#[cfg(test)]
+mod tests;
 
-pub use laws::{modules_are_counted, sends_use_again, sends_use_twice};
+pub use emu_net::{BuildFault, EmuNet};
+pub use laws::{all_are_mapped, modules_are_counted, sends_use_again, sends_use_twice};
 pub use map::{ChipMap, MemMap, Spot, StateMap, Subject};
 pub use netlist::{Chip, EmuGate, EmuMemory, EmuRead, EmuRegister, EmuWrite};
 pub use place::{Place, Thing};
 pub use results::Results;
+pub use rule::Rule;
 pub use schedule::{Action, Frame, Schedule, Slot};
