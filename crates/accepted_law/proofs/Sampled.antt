@@ -24,7 +24,8 @@ use Rattle.emu_machine.specs.State.{State, net_value, write_port, frame_slots}
 use Rattle.emu_machine.specs.Mapped.{subject, subject_value, design_write, flop_takes, flop_next, read_takes}
 use Rattle.emu_machine.specs.Marks.{MarkState, net_mark, net_marks, all_before, write_counts, marks_at}
 use Rattle.emu_machine.specs.Origins.{Loading, flop_loading, read_loading, driver_loading, loading_of, loading_fits, register_pins_fit}
-use Rattle.emu_machine.specs.Acceptance.{Case, Rule, Holds, slot_actions, register_at, has_frame, is_kept_register}
+use Rattle.emu_machine.specs.declared.rule.Rule.{Rule}
+use Rattle.emu_machine.specs.Acceptance.{Case, Holds, slot_actions, register_at, has_frame, is_kept_register}
 use Rattle.emu_machine.specs.Headline.{LoadIsSampled, ReadIsSampled, WriteIsSampled, ActionIsSampled}
 use Rattle.emu_machine.specs.Law.{IsCase}
 use Rattle.marks_law.specs.Facts.{EventFacts}

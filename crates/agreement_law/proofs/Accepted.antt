@@ -20,7 +20,9 @@ use Rattle.emu_machine.specs.State.{read_port}
 use Rattle.emu_machine.specs.Mapped.{subject}
 use Rattle.emu_machine.specs.Marks.{writes_of}
 use Rattle.emu_machine.specs.Origins.{gate_fits, register_fits}
-use Rattle.emu_machine.specs.Acceptance.{Case, Rule, A4, A5, A6, A7, A8, A9, A11, A12, Holds, fails_test, action_at, case_action_fits, keeps_subject, register_at, mapped_memory_fits, output_differs, frame_differs, has_frame, end_marks, ends_after, is_kept_register, is_kept_read, register_ends, memory_ends, read_ends, shows_before}
+use Rattle.emu_machine.specs.declared.rule.Rule.{Rule}
+use Rattle.emu_machine.specs.declared.rule.Rule.TheVariants.{A4, A5, A6, A7, A8, A9, A11, A12}
+use Rattle.emu_machine.specs.Acceptance.{Case, Holds, fails_test, action_at, case_action_fits, keeps_subject, register_at, mapped_memory_fits, output_differs, frame_differs, has_frame, end_marks, ends_after, is_kept_register, is_kept_read, register_ends, memory_ends, read_ends, shows_before}
 use Rattle.facts.proofs.Tests.{no, left, right, must, must_not, not_true, number_same}
 use Rattle.marks_law.specs.Slots.{FrameFits}
 use Rattle.marks_law.proofs.Given.{same_subjects_is}

@@ -25,7 +25,8 @@ use Rattle.emu_machine.specs.State.{State, net_value, frame_slots, state_at, rea
 use Rattle.emu_machine.specs.Mapped.{chip_map, subject, memory_of, kept_by_register, kept_by_read, is_kept, IsValueOf, IsLoaded}
 use Rattle.emu_machine.specs.Marks.{net_mark, start_marks, marks_at, design_writes, writes_of}
 use Rattle.emu_machine.specs.Origins.{keeps_read}
-use Rattle.emu_machine.specs.Acceptance.{Case, Rule, Holds, has_frame, end_marks, ends_after, is_kept_register, is_kept_read}
+use Rattle.emu_machine.specs.declared.rule.Rule.{Rule}
+use Rattle.emu_machine.specs.Acceptance.{Case, Holds, has_frame, end_marks, ends_after, is_kept_register, is_kept_read}
 use Rattle.emu_machine.specs.Law.{IsCase}
 use Rattle.marks_law.specs.Facts.{EventFacts}
 use Rattle.marks_law.specs.Truth.{MarkHolds, IsTrueOf, NetsTrue}

@@ -18,7 +18,7 @@ use Rattle.design_core.specs.Valuation.{Valuation, shown_number}
 use Rattle.design_core.specs.Event.{given, stores, written}
 use Rattle.emu_machine.specs.declared.map.Subject.{Subject}
 use Rattle.emu_machine.specs.declared.map.Subject.TheVariants.{Net, Up, Down, Take, Next, TakeWrite, Old, TakeRead}
-use Rattle.emu_machine.specs.declared.results.Results.{Results}
+use Rattle.emu_machine.specs.Results.{Results}
 use Rattle.emu_machine.specs.State.{State, Timed, present}
 use Rattle.emu_machine.specs.Mapped.{subject, memory_of, design_write, is_kept, IsValueOf, HoldsState, IsLoaded}
 use Rattle.emu_machine.specs.Marks.{no_mark, only_before, design_writes, writes_of, start_marks, is_on_its_way}

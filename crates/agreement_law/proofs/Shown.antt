@@ -15,13 +15,14 @@ use Rattle.design_core.specs.Settled.{IsSettled}
 use Rattle.emu_machine.specs.declared.netlist.EmuGate.{EmuGate}
 use Rattle.emu_machine.specs.declared.map.Subject.{Subject}
 use Rattle.emu_machine.specs.declared.map.Subject.TheVariants.{Net, Up, Down, Take, Next, TakeWrite, Old, TakeRead}
-use Rattle.emu_machine.specs.declared.results.Results.{Results}
+use Rattle.emu_machine.specs.Results.{Results}
 use Rattle.emu_machine.specs.Netlist.{chip_at, through_gates}
 use Rattle.emu_machine.specs.State.{State, net_value}
 use Rattle.emu_machine.specs.Mapped.{subject, is_kept, HoldsState}
 use Rattle.emu_machine.specs.Marks.{Mark, no_mark, only_before, driver_mark, gate_mark}
 use Rattle.emu_machine.specs.Origins.{has_origin, origin_of}
-use Rattle.emu_machine.specs.Acceptance.{Case, Rule, Holds, plain_driver_mark, plain_gate_mark}
+use Rattle.emu_machine.specs.declared.rule.Rule.{Rule}
+use Rattle.emu_machine.specs.Acceptance.{Case, Holds, plain_driver_mark, plain_gate_mark}
 use Rattle.emu_machine.specs.Headline.{Agrees}
 use Rattle.emu_machine.specs.Law.{IsCase}
 use Rattle.marks_law.specs.Facts.{EventFacts}

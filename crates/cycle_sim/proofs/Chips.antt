@@ -7,7 +7,7 @@ use Rattle.std.proofs.lemmas.Option.{none-some, slice_get_past, slice_get_within
 use Rattle.id_arena.specs.declared.wire.Wire.{Wire}
 use Rattle.emu_machine.specs.declared.netlist.Chip.{Chip}
 use Rattle.emu_machine.specs.declared.netlist.EmuRegister.{EmuRegister}
-use Rattle.emu_machine.specs.declared.results.Results.{Results}
+use Rattle.emu_machine.specs.Results.{Results}
 use Rattle.emu_machine.specs.Netlist.{no_chip, chip_at}
 use Rattle.emu_machine.specs.State.{net_value}
 use Rattle.cycle_sim.specs.Standing.{CanRun, RegisterStands}

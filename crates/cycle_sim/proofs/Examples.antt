@@ -1,7 +1,8 @@
 -- The results on which the machine is tested can be run.
-use Rattle.std.proofs.Common.{◌≡◌, ◌<◌, ℕ, zero, suc, Bool, true, List, [], ◌∷◌, get_or, length, refl, sym, ap, subst, ◌∙◌, arith}
-use Rattle.std.specs.Prelude.{◌&&◌, not, nat_lt, Some, None, slice_get, unwrap_or, Contains}
+use Rattle.std.proofs.Common.{◌≡◌, ◌<◌, ℕ, zero, suc, Bool, true, List, [], ◌∷◌, Option, ◌≤◌, get_or, length, refl, sym, ap, subst, ◌∙◌, arith}
+use Rattle.std.specs.Prelude.{is_some, ◌&&◌, not, nat_lt, Some, None, slice_get, unwrap_or, Contains}
 use Rattle.std.specs.List.{list_all}
+use Rattle.std.proofs.lemmas.List.{length-replicate}
 use Rattle.std.proofs.lemmas.List.Elements.{All-nil, All-cons}
 use Rattle.std.proofs.lemmas.Option.{none-some, same_Some}
 use Rattle.id_arena.specs.declared.keys.ChipNetId.{ChipNetId}
@@ -10,15 +11,20 @@ use Rattle.emu_machine.specs.declared.netlist.Chip.{Chip}
 use Rattle.emu_machine.specs.declared.netlist.EmuGate.{EmuGate}
 use Rattle.emu_machine.specs.declared.netlist.EmuRegister.{EmuRegister}
 use Rattle.emu_machine.specs.declared.schedule.Action.{Action}
-use Rattle.emu_machine.specs.declared.results.Results.{Results}
+use Rattle.emu_machine.specs.declared.map.ChipMap.{ChipMap}
+use Rattle.emu_machine.specs.declared.schedule.Frame.{Frame}
+use Rattle.emu_machine.specs.declared.schedule.Schedule.{Schedule}
+use Rattle.emu_machine.specs.declared.schedule.Slot.{Slot}
+use Rattle.emu_machine.specs.Results.{Results, ChipEntryFits, ResultsStand, SlotsFit}
+use Rattle.emu_machine.specs.Building.{AreChips, IsChip, IsGateOf, IsRegisterOf}
 use Rattle.emu_machine.specs.Acceptance.{action_fits}
 use Rattle.emu_machine.specs.Netlist.{no_chip, net_drivers, LeadsTo, next, through}
 use Rattle.emu_machine.specs.State.{frame_slots, actions_of}
 use Rattle.facts.proofs.Places.{all_at, at_contains}
-use Rattle.facts.proofs.Tests.{left, right, not_true}
+use Rattle.facts.proofs.Tests.{left, right, no, not_true, below}
 use Rattle.cycle_sim.specs.Standing.{IsThere, GateStands, RegisterStands, ChipStands, touches_memory, ActionStands, CanRun, IsRegister}
 use Rattle.cycle_sim.specs.Tables.{HaveSizes}
-use Rattle.cycle_sim.specs.Example.{inverter, example_chip, example_load, example_input, example_results}
+use Rattle.cycle_sim.specs.Example.{free_entry, inverter, example_chip, example_load, example_input, example_results}
 use Rattle.cycle_sim.specs.Relay.{relay_chip, relay_wires, relay_input, relay_send, relay_results}
 
 only : {X : Type 0} (x y : X) → Contains (x ∷ []) y → x ≡ y
@@ -210,3 +216,151 @@ relay_there r c k at same chip is here =
     (subst (λ n. IsRegister relay_results n k) (sym chip)
     (subst (λ n. IsRegister relay_results at n) (sym is)
     (record { q = record { place = 0 }; d = None; enable = None }, ap (λ o. slice_get (unwrap_or o no_chip).registers 0) here)))
+
+-- ## The netlists are built, and the maps have their counts
+
+inverter_fits : (nets output input : ℕ) → output < nets → input < nets → IsGateOf nets (inverter output input)
+inverter_fits nets output input low_o low_i =
+    record { form = refl; few = omega arith; output = low_o; inputs = inputs }
+  where
+    inputs : (k : ℕ) (n : ChipNetId) → slice_get (inverter output input).inputs k ≡ Some n → n.place < nets
+    inputs zero n at = subst (λ (m : ChipNetId). m.place < nets) (same_Some (record { place = input }) n at) low_i
+    inputs (suc k) n at = absurd (none-some n at)
+
+-- what the machine asks of registers without an enable is what building asks
+register_fits : (nets : ℕ) (register : EmuRegister) → register.enable ≡ None → RegisterStands nets register → IsRegisterOf nets register
+register_fits nets register none s =
+    record {
+      q = s.q;
+      d = s.d;
+      enable = s.enable;
+      loaded = λ some. absurd (no (subst (λ (o : Option ChipNetId). is_some o ≡ true) none some));
+    }
+
+no_enable : (k : ℕ) (register : EmuRegister) → slice_get example_chip.registers k ≡ Some register → register.enable ≡ None
+no_enable zero register at = sym (ap (λ (r : EmuRegister). r.enable) (same_Some (record { q = record { place = 0 }; d = None; enable = None }) register at))
+no_enable (suc zero) register at =
+    sym (ap (λ (r : EmuRegister). r.enable) (same_Some (record { q = record { place = 3 }; d = Some (record { place = 2 }); enable = None }) register at))
+no_enable (suc (suc k)) register at = absurd (none-some register at)
+
+example_fits : IsChip example_chip
+example_fits =
+    record {
+      gates = gates_fit;
+      registers = λ k register at. register_fits 4 register (no_enable k register at) (registers k register at);
+      memories = λ k memory at. absurd (none-some memory at);
+      few_gates = omega arith;
+      few_registers = omega arith;
+      few_memories = omega arith;
+      few_inputs = omega arith;
+    }
+  where
+    gates_fit : (k : ℕ) (gate : EmuGate) → slice_get example_chip.gates k ≡ Some gate → IsGateOf 4 gate
+    gates_fit zero gate at = subst (IsGateOf 4) (same_Some (inverter 2 1) gate at) (inverter_fits 4 2 1 (omega arith) (omega arith))
+    gates_fit (suc zero) gate at = subst (IsGateOf 4) (same_Some (inverter 1 0) gate at) (inverter_fits 4 1 0 (omega arith) (omega arith))
+    gates_fit (suc (suc k)) gate at = absurd (none-some gate at)
+
+pub example_chips : AreChips example_results.net
+example_chips = record { few = omega arith; each = each }
+  where
+    each : (c : ℕ) (chip : Chip) → slice_get example_results.net c ≡ Some chip → IsChip chip
+    each zero chip at = subst IsChip (same_Some example_chip chip at) example_fits
+    each (suc c) chip at = absurd (none-some chip at)
+
+relay_fits : IsChip relay_chip
+relay_fits =
+    record {
+      gates = gates_fit;
+      registers = registers_fit;
+      memories = λ k memory at. absurd (none-some memory at);
+      few_gates = omega arith;
+      few_registers = omega arith;
+      few_memories = omega arith;
+      few_inputs = omega arith;
+    }
+  where
+    gates_fit : (k : ℕ) (gate : EmuGate) → slice_get relay_chip.gates k ≡ Some gate → IsGateOf 2 gate
+    gates_fit zero gate at = subst (IsGateOf 2) (same_Some (inverter 1 0) gate at) (inverter_fits 2 1 0 (omega arith) (omega arith))
+    gates_fit (suc k) gate at = absurd (none-some gate at)
+
+    registers_fit : (k : ℕ) (register : EmuRegister) → slice_get relay_chip.registers k ≡ Some register → IsRegisterOf 2 register
+    registers_fit zero register at =
+        subst (IsRegisterOf 2) (same_Some (record { q = record { place = 0 }; d = None; enable = None }) register at)
+        (register_fits 2 (record { q = record { place = 0 }; d = None; enable = None }) refl (record { q = omega arith; d = tt; enable = tt }))
+    registers_fit (suc k) register at = absurd (none-some register at)
+
+pub relay_chips : AreChips relay_results.net
+relay_chips = record { few = omega arith; each = each }
+  where
+    each : (c : ℕ) (chip : Chip) → slice_get relay_results.net c ≡ Some chip → IsChip chip
+    each zero chip at = subst IsChip (same_Some relay_chip chip at) relay_fits
+    each (suc zero) chip at = subst IsChip (same_Some relay_chip chip at) relay_fits
+    each (suc (suc c)) chip at = absurd (none-some chip at)
+
+entry_fits : (nets registers : ℕ) (chip : Chip) → chip.nets ≡ nets → length chip.registers ≡ registers → chip.memories ≡ [] → ChipEntryFits chip (free_entry nets registers)
+entry_fits nets registers chip same count none =
+    record {
+      nets = length-replicate nets _ ∙ sym same;
+      registers = length-replicate registers _ ∙ sym count;
+      memories = sym (ap length none);
+      reads = λ m memory of at there. absurd (none-some of there);
+    }
+
+abbrev few_actions : Schedule → Bool
+few_actions schedule =
+    list_all (λ (frame : Frame). list_all (λ (slot : Slot). nat_lt (length slot.actions) 4294967296) frame.slots) schedule.frames
+
+slots_fit : (schedule : Schedule) → few_actions schedule ≡ true → SlotsFit schedule
+slots_fit schedule all k t frame slot at there =
+    let inside = all_at (λ (frame : Frame). list_all (λ (slot : Slot). nat_lt (length slot.actions) 4294967296) frame.slots) schedule.frames k frame all at in
+    let here = all_at (λ (slot : Slot). nat_lt (length slot.actions) 4294967296) frame.slots t slot inside there in
+    let low = below (length slot.actions) 4294967296 here in
+    omega arith
+
+example_stands : ResultsStand example_results
+example_stands =
+    record {
+      mapped = record { count = refl; chips = chips; outputs = λ k spot at. absurd (none-some spot at) };
+      slots = slots_fit example_results.schedule refl;
+    }
+  where
+    chips : (c : ℕ) (chip : Chip) (entry : ChipMap) → slice_get example_results.net c ≡ Some chip → slice_get example_results.map.chips c ≡ Some entry → ChipEntryFits chip entry
+    chips zero chip entry at there =
+        subst (λ (h : Chip). ChipEntryFits h entry) (same_Some example_chip chip at)
+        (subst (ChipEntryFits example_chip) (same_Some (free_entry 4 2) entry there) (entry_fits 4 2 example_chip refl refl refl))
+    chips (suc c) chip entry at there = absurd (none-some chip at)
+
+relay_stand : ResultsStand relay_results
+relay_stand =
+    record {
+      mapped = record { count = refl; chips = chips; outputs = λ k spot at. absurd (none-some spot at) };
+      slots = slots_fit relay_results.schedule refl;
+    }
+  where
+    chips : (c : ℕ) (chip : Chip) (entry : ChipMap) → slice_get relay_results.net c ≡ Some chip → slice_get relay_results.map.chips c ≡ Some entry → ChipEntryFits chip entry
+    chips zero chip entry at there =
+        subst (λ (h : Chip). ChipEntryFits h entry) (same_Some relay_chip chip at)
+        (subst (ChipEntryFits relay_chip) (same_Some (free_entry 2 1) entry there) (entry_fits 2 1 relay_chip refl refl refl))
+    chips (suc zero) chip entry at there =
+        subst (λ (h : Chip). ChipEntryFits h entry) (same_Some relay_chip chip at)
+        (subst (ChipEntryFits relay_chip) (same_Some (free_entry 2 1) entry there) (entry_fits 2 1 relay_chip refl refl refl))
+    chips (suc (suc c)) chip entry at there = absurd (none-some chip at)
+
+abbrev parts : List Chip → Schedule → List ChipMap → Results
+parts net schedule chips = record { net = net; schedule = schedule; map = record { chips = chips; outputs = [] } }
+
+-- the same of parts that are theirs
+parts_stand : (net net2 : List Chip) (schedule schedule2 : Schedule) (chips chips2 : List ChipMap) → net ≡ net2 → schedule ≡ schedule2 → chips ≡ chips2
+    → ResultsStand (parts net2 schedule2 chips2) → ResultsStand (parts net schedule chips)
+parts_stand net net2 schedule schedule2 chips chips2 same_net same_schedule same_chips they =
+    subst (λ (n : List Chip). ResultsStand (parts n schedule chips)) (sym same_net)
+    (subst (λ (s : Schedule). ResultsStand (parts net2 s chips)) (sym same_schedule)
+    (subst (λ (cs : List ChipMap). ResultsStand (parts net2 schedule2 cs)) (sym same_chips) they))
+
+pub example_parts : (net : List Chip) (schedule : Schedule) (chips : List ChipMap) → net ≡ example_results.net → schedule ≡ example_results.schedule
+    → chips ≡ example_results.map.chips → ResultsStand (record { net = net; schedule = schedule; map = record { chips = chips; outputs = [] } })
+example_parts net schedule chips a b d = parts_stand net _ schedule _ chips _ a b d example_stands
+
+pub relay_parts : (net : List Chip) (schedule : Schedule) (chips : List ChipMap) → net ≡ relay_results.net → schedule ≡ relay_results.schedule
+    → chips ≡ relay_results.map.chips → ResultsStand (record { net = net; schedule = schedule; map = record { chips = chips; outputs = [] } })
+relay_parts net schedule chips a b d = parts_stand net _ schedule _ chips _ a b d relay_stand

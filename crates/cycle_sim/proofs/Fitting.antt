@@ -8,7 +8,7 @@ use Rattle.id_arena.specs.declared.keys.RegId.{RegId}
 use Rattle.id_arena.specs.declared.keys.WireId.{WireId}
 use Rattle.id_arena.specs.declared.wire.Wire.{Wire}
 use Rattle.emu_machine.specs.declared.netlist.EmuRegister.{EmuRegister}
-use Rattle.emu_machine.specs.declared.results.Results.{Results}
+use Rattle.emu_machine.specs.Results.{Results}
 use Rattle.emu_machine.specs.declared.schedule.Action.{Action}
 use Rattle.emu_machine.specs.declared.schedule.Action.TheVariants.{Input, Load, Send, Write, Read}
 use Rattle.emu_machine.specs.declared.schedule.Slot.{Slot}

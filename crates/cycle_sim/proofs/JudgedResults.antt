@@ -20,7 +20,7 @@ use Rattle.emu_machine.specs.declared.map.ChipMap.{ChipMap}
 use Rattle.emu_machine.specs.declared.map.Subject.{Subject}
 use Rattle.emu_machine.specs.declared.map.Subject.TheVariants.{Net, Up, Down, Take, Next, TakeWrite, Old, TakeRead}
 use Rattle.emu_machine.specs.declared.place.Place.TheVariants as place
-use Rattle.emu_machine.specs.declared.results.Results.{Results}
+use Rattle.emu_machine.specs.Results.{Results}
 use Rattle.emu_machine.specs.declared.schedule.Action.{Action}
 use Rattle.emu_machine.specs.declared.schedule.Action.TheVariants as action
 use Rattle.emu_machine.specs.declared.schedule.Frame.{Frame}
@@ -29,8 +29,9 @@ use Rattle.emu_machine.specs.Netlist.{no_chip, chip_at, is_chip_net, net_drivers
 use Rattle.emu_machine.specs.State.{frame_slots, actions_of}
 use Rattle.emu_machine.specs.Mapped.{chip_map, subject, is_kept, kept_by_register, kept_by_read}
 use Rattle.emu_machine.specs.Origins.{is_net_subject, register_fits, register_pins_fit}
-use Rattle.emu_machine.specs.Acceptance.{Case, A2, A5, A7, Holds, case_action_fits, fails_test, is_hold, is_in_group, register_of}
-use Rattle.emu_machine.specs.Law.{MapFits}
+use Rattle.emu_machine.specs.declared.rule.Rule.TheVariants.{A2, A5, A7}
+use Rattle.emu_machine.specs.Acceptance.{Case, Holds, case_action_fits, fails_test, is_hold, is_in_group, register_of}
+use Rattle.emu_machine.specs.Results.{MapFits}
 use Rattle.emu_machine.specs.Plain.{IsPlainGate, IsPlainRegister, IsPlainChip, IsPlainResults, IsInput}
 use Rattle.facts.proofs.Lists.{any_at}
 use Rattle.facts.proofs.Places.{any_found, at_contains, at_last, at_zip, contains_at}

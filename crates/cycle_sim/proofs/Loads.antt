@@ -16,7 +16,7 @@ use Rattle.emu_machine.specs.declared.map.ChipMap.{ChipMap}
 use Rattle.emu_machine.specs.declared.map.MemMap.{MemMap}
 use Rattle.emu_machine.specs.declared.map.Subject.{Subject}
 use Rattle.emu_machine.specs.declared.map.Subject.TheVariants.{Net, Up, Down, Take, Next, TakeWrite, Old, TakeRead}
-use Rattle.emu_machine.specs.declared.results.Results.{Results}
+use Rattle.emu_machine.specs.Results.{Results}
 use Rattle.emu_machine.specs.Netlist.{no_chip, chip_at, is_chip_net}
 use Rattle.emu_machine.specs.Mapped.{no_chip_map, chip_map, subject, memory_of, is_kept, kept_by_register, kept_by_read, IsValueOf, IsLoaded}
 use Rattle.facts.proofs.Lists.{no}

@@ -3,7 +3,7 @@ use Rattle.std.proofs.Common.{◌≡◌, ◌+◌, ℕ, Bool, true, false, List, 
 use Rattle.std.specs.Prelude.{Some, None, slice_get, unwrap_or}
 use Rattle.std.specs.List.{list_all}
 use Rattle.id_arena.specs.declared.wire.Wire.{Wire}
-use Rattle.emu_machine.specs.declared.results.Results.{Results}
+use Rattle.emu_machine.specs.Results.{Results}
 use Rattle.emu_machine.specs.declared.schedule.Action.{Action}
 use Rattle.emu_machine.specs.declared.schedule.Action.TheVariants.{Input, Load, Send, Write, Read}
 use Rattle.emu_machine.specs.State.{State, action_carried, first_given}

@@ -12,7 +12,7 @@ use Rattle.design_core.specs.Event.{given}
 use Rattle.emu_machine.specs.declared.schedule.Action.{Action}
 use Rattle.emu_machine.specs.declared.schedule.Action.TheVariants.{Input, Load, Send, Write, Read}
 use Rattle.emu_machine.specs.declared.schedule.Slot.{Slot}
-use Rattle.emu_machine.specs.declared.results.Results.{Results}
+use Rattle.emu_machine.specs.Results.{Results}
 use Rattle.emu_machine.specs.State.{State, action_value, action_word, action_carried, first_given, actions_of, ending, slot_step, present}
 use Rattle.facts.proofs.Tests.{same_number}
 use Rattle.cycle_sim.specs.Standing.{CanTake}

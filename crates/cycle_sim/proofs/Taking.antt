@@ -14,7 +14,7 @@ use Rattle.id_arena.specs.declared.wire.Wire.{Wire}
 use Rattle.emu_machine.specs.declared.netlist.EmuRegister.{EmuRegister}
 use Rattle.emu_machine.specs.declared.schedule.Action.{Action}
 use Rattle.emu_machine.specs.declared.schedule.Action.TheVariants.{Input, Load, Send}
-use Rattle.emu_machine.specs.declared.results.Results.{Results}
+use Rattle.emu_machine.specs.Results.{Results}
 use Rattle.emu_machine.specs.Netlist.{chip_at, is_chip_net}
 use Rattle.emu_machine.specs.State.{State, net_value, on_register, loaded_value, arriving, action_value, first_given}
 use Rattle.facts.proofs.Tests.{same_number}

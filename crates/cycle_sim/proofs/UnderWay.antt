@@ -10,7 +10,7 @@ use Rattle.id_arena.specs.declared.wire.Wire.{Wire}
 use Rattle.emu_machine.specs.declared.schedule.Action.{Action}
 use Rattle.emu_machine.specs.declared.schedule.Action.TheVariants.{Input, Load, Send, Write, Read}
 use Rattle.emu_machine.specs.declared.schedule.Slot.{Slot}
-use Rattle.emu_machine.specs.declared.results.Results.{Results}
+use Rattle.emu_machine.specs.Results.{Results}
 use Rattle.emu_machine.specs.Netlist.{through_gates}
 use Rattle.emu_machine.specs.State.{net_value, on_register, action_value, action_carried, first_given, actions_of, ending, slot_step}
 use Rattle.cycle_sim.specs.Standing.{SlotsStand}

@@ -5,8 +5,9 @@ use Rattle.design_core.specs.declared.node.NodeId.{NodeId}
 use Rattle.design_core.specs.Design.{IsDesign, net_count}
 use Rattle.design_core.specs.Influence.{Group, IsGroup}
 use Rattle.emu_machine.specs.Netlist.{IsNetlist}
-use Rattle.emu_machine.specs.Acceptance.{Case, Holds, A2, A5, A7}
-use Rattle.emu_machine.specs.Law.{MapFits}
+use Rattle.emu_machine.specs.declared.rule.Rule.TheVariants.{A2, A5, A7}
+use Rattle.emu_machine.specs.Acceptance.{Case, Holds}
+use Rattle.emu_machine.specs.Results.{MapFits}
 use Rattle.emu_machine.specs.Plain.{IsPlainResults}
 use Rattle.cycle_sim.specs.Standing.{CanRun}
 use Rattle.cycle_sim.specs.Loading.{CanLoad}

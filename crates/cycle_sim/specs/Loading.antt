@@ -9,7 +9,7 @@ use Rattle.emu_machine.specs.declared.netlist.EmuRegister.{EmuRegister}
 use Rattle.emu_machine.specs.declared.map.ChipMap.{ChipMap}
 use Rattle.emu_machine.specs.declared.map.Subject.{Subject}
 use Rattle.emu_machine.specs.declared.map.Subject.TheVariants.{Net}
-use Rattle.emu_machine.specs.declared.results.Results.{Results}
+use Rattle.emu_machine.specs.Results.{Results}
 use Rattle.emu_machine.specs.Netlist.{chip_at, is_chip_net, read_nets}
 use Rattle.emu_machine.specs.State.{State}
 use Rattle.emu_machine.specs.Mapped.{subject, is_kept, kept_by_register}

@@ -6,8 +6,8 @@ use Rattle.emu_machine.specs.declared.netlist.Chip.{Chip}
 use Rattle.emu_machine.specs.declared.schedule.Action.{Action}
 use Rattle.emu_machine.specs.declared.schedule.Action.TheVariants.{Input, Send}
 use Rattle.emu_machine.specs.declared.schedule.Schedule.{Schedule}
-use Rattle.emu_machine.specs.declared.results.Results.{Results}
-use Rattle.cycle_sim.specs.Example.{inverter}
+use Rattle.emu_machine.specs.Results.{Results}
+use Rattle.cycle_sim.specs.Example.{free_entry, inverter}
 
 abbrev pub relay_chip : Chip
 relay_chip =
@@ -47,5 +47,5 @@ relay_results =
     record {
       net = relay_chip ∷ relay_chip ∷ [];
       schedule = relay_schedule;
-      map = record { chips = []; outputs = [] };
+      map = record { chips = free_entry 2 1 ∷ free_entry 2 1 ∷ []; outputs = [] };
     }

@@ -10,7 +10,7 @@ use Rattle.emu_machine.specs.declared.netlist.EmuRegister.{EmuRegister}
 use Rattle.emu_machine.specs.declared.schedule.Action.{Action}
 use Rattle.emu_machine.specs.declared.schedule.Action.TheVariants.{Input, Load, Send, Write, Read}
 use Rattle.emu_machine.specs.declared.schedule.Slot.{Slot}
-use Rattle.emu_machine.specs.declared.results.Results.{Results}
+use Rattle.emu_machine.specs.Results.{Results}
 use Rattle.emu_machine.specs.Netlist.{chip_at, net_drivers, IsOnCycle}
 use Rattle.emu_machine.specs.State.{frame_slots, actions_of}
 use Rattle.emu_machine.specs.Acceptance.{action_fits}

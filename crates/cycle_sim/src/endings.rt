@@ -20,7 +20,7 @@ pub(crate) fn all_endings(
     ensures { IfOk result (λ endings. AllEndings results.now wires.now endings.items) }
 {
     let mut endings = Vec::new(alloc);
-    'frames: for frame in results.schedule.frames.as_slice() {
+    'frames: for frame in results.schedule().frames.as_slice() {
         endings.push(endings_of(alloc, wires, frame.slots.as_slice())?)?;
     }
     Ok(endings)

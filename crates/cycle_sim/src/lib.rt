@@ -15,6 +15,7 @@ mod laws;
 mod loaded;
 mod machine;
 mod order;
+mod parts;
 mod pass;
 mod sent;
 mod slots;

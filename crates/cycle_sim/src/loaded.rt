@@ -7,6 +7,7 @@ ghost use Rattle.settled_model.specs.Held.{valuation};
 ghost use Rattle.cycle_sim.specs.Loading.{AreHeld, CanLoad, CanLoadRegisters, ChipLoads, FreeAreZero, HasHeld, IsHeld, told};
 ghost use Rattle.cycle_sim.specs.Tables.{HaveSizes, state_of};
 
+use crate::parts::{chip_count, chip_of};
 use design_core::Design;
 use emu_io::{List, NoMemory};
 use emu_machine::{Chip, ChipMap, EmuRegister, Results, Subject};
@@ -93,8 +94,13 @@ fn held_of(alloc: Global, results: &Results, values: &[bool]) -> Result<Vec<List
     ensures { IfOk result (λ held. AreHeld results.now values.now (length results.now.net) held.items) }
 {
     let mut held = Vec::new(alloc);
-    'chips: for c in 0..results.net.len() {
-        held.push(chip_held(alloc, results.net.get(c), results.map.chips.get(c), values)?)?;
+    'chips: for c in 0..chip_count(results) {
+        held.push(chip_held(
+            alloc,
+            chip_of(results, c),
+            results.map().chips.get(c),
+            values,
+        )?)?;
     }
     Ok(held)
 }

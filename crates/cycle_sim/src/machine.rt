@@ -10,6 +10,7 @@ ghost use Rattle.cycle_sim.specs.Tables.{AllStepped, cell, HasPut, HaveSizes, st
 
 use crate::endings::all_endings;
 use crate::loaded::Loaded;
+use crate::parts::chips_of;
 use crate::pass::settle_all;
 use crate::slots::{Plan, Timetable, do_frame, do_slot_alone};
 use crate::steps::{Step, steps_of};
@@ -209,7 +210,7 @@ fn timetable_of<'a>(
     ensures endings { result.endings.now ≡ get_or endings.now group.place [] }
 {
     let slots = results
-        .schedule
+        .schedule()
         .frames
         .get(group.place() as u64)
         .slots
@@ -224,7 +225,7 @@ fn all_steps(alloc: Global, results: &Results) -> Result<Vec<List<Step>>, NoMemo
     ensures { IfOk result (λ steps. AllStepped results.now steps.items) }
 {
     let mut steps = Vec::new(alloc);
-    'chips: for chip in results.net.as_slice() {
+    'chips: for chip in chips_of(results) {
         steps.push(steps_of(alloc, chip)?)?;
     }
     Ok(steps)
@@ -235,7 +236,7 @@ fn zeros(alloc: Global, results: &Results) -> Result<Vec<List<bool>>, NoMemory>
     ensures { IfOk result (λ table. HaveSizes results.now table.items) }
 {
     let mut table = Vec::new(alloc);
-    'chips: for chip in results.net.as_slice() {
+    'chips: for chip in chips_of(results) {
         table.push(List::from_vec(vec![in alloc; false; chip.nets as usize]?))?;
     }
     Ok(table)

@@ -9,6 +9,7 @@ ghost use Rattle.cycle_sim.specs.Tables.{AllShown, AllStepped, HaveSizes};
 ghost use Rattle.cycle_sim.specs.Values.{AreShown, gate_gives, values_in};
 
 use crate::gates::{gate_value, value_of};
+use crate::parts::chip_of;
 use crate::steps::Step;
 use emu_io::List;
 use emu_machine::{Chip, Results};
@@ -29,7 +30,7 @@ pub(crate) fn settle_all(
 {
     'chips: for c in 0..held.len() {
         settle(
-            results.net.get(c as u64),
+            chip_of(results, c as u64),
             steps[c].as_slice(),
             &held[c],
             &mut shown[c],

@@ -1,7 +1,7 @@
 //! What the actions of a slot put on wires.
 
 ghost use Rattle.std.specs.Prelude.{◌≡◌, All, length};
-ghost use Rattle.emu_machine.specs.declared.results.Results.{Results};
+ghost use Rattle.emu_machine.specs.Results.{Results};
 ghost use Rattle.cycle_sim.specs.Standing.{CanSend};
 ghost use Rattle.cycle_sim.specs.Takes.{HasSent, HasSentOne};
 

@@ -9,6 +9,7 @@ ghost use Rattle.cycle_sim.specs.Takes.{HasTaken, HasTakenOne};
 ghost use Rattle.cycle_sim.specs.Values.{value_in};
 
 use crate::gates::value_of;
+use crate::parts::chip_of;
 use emu_io::List;
 use emu_machine::{Action, EmuRegister, Results};
 use id_arena::{ChipId, ChipNetId, Key, RegId, Wire, WireId};
@@ -147,9 +148,7 @@ pub(crate) fn register_of(results: &Results, chip: ChipId, register: RegId) -> E
     requires { IsRegister results.now chip.place register.place }
     ensures { slice_get (chip_at results.now.net chip.place).registers register.place ≡ Some result }
 {
-    *results
-        .net
-        .get(chip.place() as u64)
+    *chip_of(results, chip.place() as u64)
         .registers
         .get(register.place() as u64)
 }

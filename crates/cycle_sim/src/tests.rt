@@ -1,6 +1,8 @@
 //! The machine on small results, slot by slot, with values that were worked out by hand.
 ghost use Rattle.std.specs.Prelude.{◌≡◌, ◌<◌, ◌∷◌, [], IfOk, Some, None, codes, length, replicate, false};
-ghost use Rattle.cycle_sim.specs.Example.{example_chip, example_results, example_schedule, inverter};
+ghost use Rattle.emu_machine.specs.Building.{AreChips};
+ghost use Rattle.emu_machine.specs.Results.{ResultsStand};
+ghost use Rattle.cycle_sim.specs.Example.{example_chip, example_results, example_schedule, free_entry, inverter};
 ghost use Rattle.cycle_sim.specs.Relay.{relay_chip, relay_results, relay_schedule, relay_wires};
 ghost use Rattle.cycle_sim.specs.Standing.{CanRun};
 ghost use Rattle.cycle_sim.specs.Tables.{HaveSizes};
@@ -9,7 +11,10 @@ use crate::loaded::Loaded;
 use crate::machine::Machine;
 use design_core::{Op, PortBit, PortValues};
 use emu_io::{List, NoMemory, Text};
-use emu_machine::{Action, Chip, EmuGate, EmuRegister, Frame, Results, Schedule, Slot, StateMap};
+use emu_machine::{
+    Action, Chip, ChipMap, EmuGate, EmuNet, EmuRegister, Frame, Results, Schedule, Slot, StateMap,
+    Subject,
+};
 use id_arena::{ChipId, ChipNetId, GroupId, Key, NetId, RegId, Wire, WireId};
 use std::alloc::Global;
 use std::test::Fail;
@@ -76,19 +81,70 @@ fn example_schedule(alloc: Global) -> Result<Schedule, NoMemory>
     Ok(Schedule { frames })
 }
 
-fn example_results(alloc: Global) -> Result<Results, NoMemory>
-    ensures { IfOk result (λ results. results ≡ example_results) }
+/// The results of these parts, without outputs.
+fn results_of(
+    alloc: Global,
+    net: List<Chip>,
+    schedule: Schedule,
+    chips: List<ChipMap>,
+) -> Result<Results, NoMemory>
+    requires chips { AreChips net }
+    requires stand { ResultsStand (record {
+      net = net;
+      schedule = schedule;
+      map = record { chips = chips; outputs = [] };
+    }) }
+    ensures { IfOk result (λ results. results ≡ record {
+      net = net;
+      schedule = schedule;
+      map = record { chips = chips; outputs = [] };
+    }) }
+{
+    let Ok(net) = EmuNet::build(alloc, net) else {
+        return Err(NoMemory);
+    };
+    let map = StateMap {
+        chips,
+        outputs: List::new(alloc),
+    };
+    Ok(Results::new(net, schedule, map))
+}
+
+/// An entry of the map for so many nets and registers.
+fn free_entry(alloc: Global, nets: usize, registers: usize) -> Result<ChipMap, NoMemory>
+    ensures { IfOk result (λ entry. entry ≡ free_entry nets registers) }
+{
+    let subject = Subject::Net(NetId::of(2));
+    Ok(ChipMap {
+        nets: List::from_vec(vec![in alloc; subject; nets]?),
+        kept: List::from_vec(vec![in alloc; false; registers]?),
+        memories: List::new(alloc),
+    })
+}
+
+fn example_net(alloc: Global) -> Result<List<Chip>, NoMemory>
+    ensures { IfOk result (λ net. net ≡ example_chip ∷ []) }
 {
     let mut net = List::new(alloc);
     net.push(example_chip(alloc)?)?;
-    Ok(Results {
-        net,
-        schedule: example_schedule(alloc)?,
-        map: StateMap {
-            chips: List::new(alloc),
-            outputs: List::new(alloc),
-        },
-    })
+    Ok(net)
+}
+
+fn example_entries(alloc: Global) -> Result<List<ChipMap>, NoMemory>
+    ensures { IfOk result (λ chips. chips ≡ free_entry 4 2 ∷ []) }
+{
+    let mut chips = List::new(alloc);
+    chips.push(free_entry(alloc, 4, 2)?)?;
+    Ok(chips)
+}
+
+fn example_results(alloc: Global) -> Result<Results, NoMemory>
+    ensures { IfOk result (λ results. results ≡ example_results) }
+{
+    let net = example_net(alloc)?;
+    let schedule = example_schedule(alloc)?;
+    let chips = example_entries(alloc)?;
+    results_of(alloc, net, schedule, chips)
 }
 
 // The machine can run them.
@@ -216,20 +272,31 @@ fn relay_schedule(alloc: Global) -> Result<Schedule, NoMemory>
     Ok(Schedule { frames })
 }
 
-fn relay_results(alloc: Global) -> Result<Results, NoMemory>
-    ensures { IfOk result (λ results. results ≡ relay_results) }
+fn relay_net(alloc: Global) -> Result<List<Chip>, NoMemory>
+    ensures { IfOk result (λ net. net ≡ relay_chip ∷ relay_chip ∷ []) }
 {
     let mut net = List::new(alloc);
     net.push(relay_chip(alloc)?)?;
     net.push(relay_chip(alloc)?)?;
-    Ok(Results {
-        net,
-        schedule: relay_schedule(alloc)?,
-        map: StateMap {
-            chips: List::new(alloc),
-            outputs: List::new(alloc),
-        },
-    })
+    Ok(net)
+}
+
+fn relay_entries(alloc: Global) -> Result<List<ChipMap>, NoMemory>
+    ensures { IfOk result (λ chips. chips ≡ free_entry 2 1 ∷ free_entry 2 1 ∷ []) }
+{
+    let mut chips = List::new(alloc);
+    chips.push(free_entry(alloc, 2, 1)?)?;
+    chips.push(free_entry(alloc, 2, 1)?)?;
+    Ok(chips)
+}
+
+fn relay_results(alloc: Global) -> Result<Results, NoMemory>
+    ensures { IfOk result (λ results. results ≡ relay_results) }
+{
+    let net = relay_net(alloc)?;
+    let schedule = relay_schedule(alloc)?;
+    let chips = relay_entries(alloc)?;
+    results_of(alloc, net, schedule, chips)
 }
 
 fn relay_wire(latency: u32) -> Wire

@@ -23,12 +23,13 @@ use Rattle.emu_machine.specs.declared.map.Subject.{Subject}
 use Rattle.emu_machine.specs.declared.map.Subject.TheVariants.{Net, Up, Down, Take, Next, TakeWrite, Old, TakeRead}
 use Rattle.emu_machine.specs.declared.map.ChipMap.{ChipMap}
 use Rattle.emu_machine.specs.declared.map.MemMap.{MemMap}
-use Rattle.emu_machine.specs.declared.results.Results.{Results}
+use Rattle.emu_machine.specs.Results.{Results}
 use Rattle.emu_machine.specs.Netlist.{chip_at, is_chip_net, read_nets, net_drivers, gate_of, on_net}
 use Rattle.emu_machine.specs.Mapped.{no_chip_map, chip_map, subject, memory_of}
 use Rattle.emu_machine.specs.Origins.{same_subject, has_subject, have_subjects, origin_of, net_origin, has_origin, gate_fits, is_design_net, is_net_subject, driver_loading, loading_of, loading_fits, register_pins_fit, register_fits, read_subjects, keeps_read, read_fits, memory_ports_fit, memory_fits}
 use Rattle.emu_machine.specs.Acceptance.{Case, register_at, is_kept_read, mapped_memory_fits}
-use Rattle.emu_machine.specs.Law.{MapFits, ChipEntryFits, IsCase}
+use Rattle.emu_machine.specs.Results.{MapFits, ChipEntryFits}
+use Rattle.emu_machine.specs.Law.{IsCase}
 use Rattle.facts.proofs.Counting.{counted, counted_found, not_found}
 use Rattle.facts.proofs.Tests.{no, left, right, below, number_same, not_true, same_number, mapped}
 use Rattle.marks_law.proofs.Inputs.{same_subject_is}

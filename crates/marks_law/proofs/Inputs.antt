@@ -12,7 +12,7 @@ use Rattle.design_core.specs.Operation.{op_value}
 use Rattle.design_core.specs.Valuation.{Valuation}
 use Rattle.emu_machine.specs.declared.map.Subject.{Subject}
 use Rattle.emu_machine.specs.declared.map.Subject.TheVariants.{Net, Up, Down, Take, Next, TakeWrite, Old, TakeRead}
-use Rattle.emu_machine.specs.declared.results.Results.{Results}
+use Rattle.emu_machine.specs.Results.{Results}
 use Rattle.emu_machine.specs.Mapped.{subject}
 use Rattle.emu_machine.specs.Marks.{Mark, all_before, all_after}
 use Rattle.emu_machine.specs.Origins.{same_subject, same_op, have_subjects, table_of}

@@ -13,7 +13,7 @@ use Rattle.design_core.specs.Valuation.{Valuation}
 use Rattle.emu_machine.specs.declared.netlist.EmuGate.{EmuGate}
 use Rattle.emu_machine.specs.declared.map.Subject.{Subject}
 use Rattle.emu_machine.specs.declared.map.Subject.TheVariants.{Net, Up, Down, Take, Next, TakeWrite, Old, TakeRead}
-use Rattle.emu_machine.specs.declared.results.Results.{Results}
+use Rattle.emu_machine.specs.Results.{Results}
 use Rattle.emu_machine.specs.Netlist.{chip_at}
 use Rattle.emu_machine.specs.State.{State, net_value}
 use Rattle.emu_machine.specs.Mapped.{subject}

@@ -7,7 +7,7 @@ use Rattle.design_core.specs.declared.values.PortBit.{PortBit}
 use Rattle.design_core.specs.Operation.{op_value}
 use Rattle.design_core.specs.Valuation.{Valuation}
 use Rattle.emu_machine.specs.declared.netlist.EmuGate.{EmuGate}
-use Rattle.emu_machine.specs.declared.results.Results.{Results}
+use Rattle.emu_machine.specs.Results.{Results}
 use Rattle.emu_machine.specs.Netlist.{chip_at}
 use Rattle.emu_machine.specs.State.{State}
 use Rattle.emu_machine.specs.Marks.{MarkState}

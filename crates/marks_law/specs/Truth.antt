@@ -7,7 +7,7 @@ use Rattle.design_core.specs.Design.{net_count}
 use Rattle.design_core.specs.Valuation.{Valuation}
 use Rattle.emu_machine.specs.declared.map.Subject.{Subject}
 use Rattle.emu_machine.specs.declared.map.Subject.TheVariants.{Net}
-use Rattle.emu_machine.specs.declared.results.Results.{Results}
+use Rattle.emu_machine.specs.Results.{Results}
 use Rattle.emu_machine.specs.State.{State, net_value}
 use Rattle.emu_machine.specs.Mapped.{subject, subject_value}
 use Rattle.emu_machine.specs.Marks.{Mark, MarkState, net_mark}

@@ -14,7 +14,8 @@ use Rattle.emu_machine.specs.declared.schedule.Slot.{Slot}
 use Rattle.emu_machine.specs.declared.schedule.Frame.{Frame}
 use Rattle.emu_machine.specs.declared.place.Place.TheVariants as place
 use Rattle.emu_machine.specs.State.{frame_slots}
-use Rattle.emu_machine.specs.Acceptance.{Case, A4, A5, A8, A10, action_at, fails_test, case_action_fits, keeps_subject, sends_inside, send_fits}
+use Rattle.emu_machine.specs.declared.rule.Rule.TheVariants.{A4, A5, A8, A10}
+use Rattle.emu_machine.specs.Acceptance.{Case, action_at, fails_test, case_action_fits, keeps_subject, sends_inside, send_fits}
 use Rattle.schedule_check.specs.declared.actions.Test.TheVariants.{IsThere, KeepsSubject}
 use Rattle.schedule_check.specs.Actions.{is_there, slots_pass}
 use Rattle.schedule_check.specs.Verdict.{IsPlainCase, Meets, inside_all, all_inputs}

@@ -13,7 +13,7 @@ use Rattle.id_arena.specs.declared.keys.NetId.{NetId}
 use Rattle.emu_machine.specs.Netlist.{chip_at, no_chip}
 use Rattle.emu_machine.specs.Mapped.{chip_map, no_chip_map, subject}
 use Rattle.emu_machine.specs.Plain.{IsPlainChip, IsPlainGate, IsPlainRegister, IsNetSubject}
-use Rattle.emu_machine.specs.Law.{ChipEntryFits}
+use Rattle.emu_machine.specs.Results.{ChipEntryFits}
 use Rattle.emu_machine.specs.Acceptance.{Case}
 use Rattle.schedule_check.specs.Verdict.{IsPlainCase, all_inputs}
 use Rattle.facts.proofs.Places.{contains_at}

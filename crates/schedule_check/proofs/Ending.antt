@@ -23,7 +23,8 @@ use Rattle.emu_machine.specs.Netlist.{chip_at, is_chip_net, net_drivers, gate_of
 use Rattle.emu_machine.specs.Mapped.{subject, chip_map, is_kept}
 use Rattle.emu_machine.specs.Marks.{Mark, MarkState, no_mark, only_before, only_after, both_marks, has_some, widened, gate_mark, action_mark, marks_step, marks_at, start_marks}
 use Rattle.emu_machine.specs.State.{frame_slots, actions_of, ending, first_given, on_register, read_port}
-use Rattle.emu_machine.specs.Acceptance.{Case, A4, A5, A11, is_inside, is_hold, is_kept_register, register_at, register_ends, memory_ends, read_ends, end_marks, ends_after, has_frame}
+use Rattle.emu_machine.specs.declared.rule.Rule.TheVariants.{A4, A5, A11}
+use Rattle.emu_machine.specs.Acceptance.{Case, is_inside, is_hold, is_kept_register, register_at, register_ends, memory_ends, read_ends, end_marks, ends_after, has_frame}
 use Rattle.emu_machine.proofs.OneSlot.{ending_is}
 use Rattle.facts.proofs.Counting.{count_more, counted, not_found}
 use Rattle.facts.proofs.Lists.{any_at}

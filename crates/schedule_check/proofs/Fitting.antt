@@ -7,7 +7,8 @@ use Rattle.emu_machine.specs.declared.netlist.EmuMemory.{EmuMemory}
 use Rattle.emu_machine.specs.declared.place.Place.TheVariants as place
 use Rattle.emu_machine.specs.Netlist.{chip_at}
 use Rattle.emu_machine.specs.Origins.{gate_fits, register_fits}
-use Rattle.emu_machine.specs.Acceptance.{Case, A7, fails_test, mapped_memory_fits}
+use Rattle.emu_machine.specs.declared.rule.Rule.TheVariants.{A7}
+use Rattle.emu_machine.specs.Acceptance.{Case, fails_test, mapped_memory_fits}
 use Rattle.schedule_check.specs.Verdict.{IsPlainCase, Meets}
 use Rattle.schedule_check.proofs.Chips.{other_chip, plain_chip}
 use Rattle.schedule_check.proofs.Passing.{all_true, not_both}

@@ -15,12 +15,13 @@ use Rattle.design_core.specs.Plain.{IsPlainElement}
 use Rattle.emu_machine.specs.declared.netlist.Chip.{Chip}
 use Rattle.emu_machine.specs.declared.netlist.EmuRegister.{EmuRegister}
 use Rattle.emu_machine.specs.declared.map.Spot.{Spot}
-use Rattle.emu_machine.specs.declared.results.Results.{Results}
+use Rattle.emu_machine.specs.Results.{Results}
 use Rattle.emu_machine.specs.declared.map.Subject.TheVariants.{Net}
 use Rattle.emu_machine.specs.declared.place.Place.TheVariants as place
 use Rattle.emu_machine.specs.Netlist.{chip_at}
 use Rattle.emu_machine.specs.Mapped.{chip_map}
-use Rattle.emu_machine.specs.Acceptance.{Case, A9, fails_test, is_element_mapped, is_register_kept, chip_keeps, output_differs, same_subjects, spot_subject}
+use Rattle.emu_machine.specs.declared.rule.Rule.TheVariants.{A9}
+use Rattle.emu_machine.specs.Acceptance.{Case, fails_test, is_element_mapped, is_register_kept, chip_keeps, output_differs, same_subjects, spot_subject}
 use Rattle.history_law.proofs.Naming.{input_bit_is_input}
 use Rattle.facts.proofs.Tests.{number_same, same_number, no, left, right, not_true, must}
 use Rattle.facts.proofs.Lists.{any_at}

@@ -1,15 +1,15 @@
 -- The rules in the order of their numbers, and what the verdicts come to.
 use Rattle.std.proofs.Common.{◌≡◌, ℕ, ◌+◌, ◌<◌, ◌≤◌, arith, Bool, true, false, refl, subst, sym, ap, ◌∙◌}
 use Rattle.std.specs.Prelude.{IsTrue, ◌↔◌, ◌==◌, length, Option, Some, None, is_some}
-use Rattle.emu_machine.specs.Acceptance.{Case, Rule, A1, A2, A3, A4, A5, A6, A7, A8, A9, A10, A11, A12, rule_number, IsAccepted}
+use Rattle.emu_machine.specs.declared.rule.Rule.{Rule}
+use Rattle.emu_machine.specs.declared.rule.Rule.TheVariants.{A1, A2, A3, A4, A5, A6, A7, A8, A9, A10, A11, A12}
+use Rattle.emu_machine.specs.Acceptance.{Case, rule_number, IsAccepted}
 use Rattle.graph_rank.specs.Ranks.{Ranking}
 use Rattle.schedule_check.specs.Cycles.{Orders}
-use Rattle.schedule_check.specs.declared.verdict.Rule.{Rule as Told}
-use Rattle.schedule_check.specs.declared.verdict.Rule.TheVariants as declared
 use Rattle.schedule_check.proofs.Weighing.{meets_a1}
 use Rattle.schedule_check.proofs.Acting.{meets_a10}
 use Rattle.facts.proofs.Tests.{no}
-use Rattle.schedule_check.specs.Verdict.{IsPlainCase, Meets, MeetsBefore, FailsFirst, inside_all, named}
+use Rattle.schedule_check.specs.Verdict.{IsPlainCase, Meets, MeetsBefore, FailsFirst, inside_all}
 use Rattle.schedule_check.proofs.Reaching.{influences}
 
 last_number : (r : Rule) → rule_number r < 13
@@ -46,25 +46,25 @@ module _ (c : Case) (s : IsPlainCase c) where
       }
 
   -- there is one module, as there is one chip, so A1 holds of every plain case
-  pub one_module : (rule : Told) (b : Bool) → b ≡ (length c.results.net == 1) → rule ≡ declared.A1 → IsTrue b ↔ Meets c (named rule)
+  pub one_module : (rule : Rule) (b : Bool) → b ≡ (length c.results.net == 1) → rule ≡ A1 → IsTrue b ↔ Meets c rule
   one_module rule b is e =
       let one : (length c.results.net == 1) ≡ true = ap (λ chips. length chips == 1) s.results.one in
-      (λ t. subst (λ (r : Told). Meets c (named r)) (sym e) (meets_a1 c s), λ m. is ∙ one)
+      (λ t. subst (λ (r : Rule). Meets c r) (sym e) (meets_a1 c s), λ m. is ∙ one)
 
   -- A10 holds where the actions are there, since there is no wire
-  pub nothing_sent : (rule : Told) → rule ≡ declared.A10 → MeetsBefore c (named rule) → IsTrue true ↔ Meets c (named rule)
+  pub nothing_sent : (rule : Rule) → rule ≡ A10 → MeetsBefore c rule → IsTrue true ↔ Meets c rule
   nothing_sent rule e before =
-      let earlier : MeetsBefore c A10 = subst (λ (r : Told). MeetsBefore c (named r)) e before in
-      (λ t. subst (λ (r : Told). Meets c (named r)) (sym e) (meets_a10 c s (earlier A4 (omega arith)) (earlier A5 (omega arith))), λ m. refl)
+      let earlier : MeetsBefore c A10 = subst (λ (r : Rule). MeetsBefore c r) e before in
+      (λ t. subst (λ (r : Rule). Meets c r) (sym e) (meets_a10 c s (earlier A4 (omega arith)) (earlier A5 (omega arith))), λ m. refl)
 
 -- there is an order just where A2 holds
 pub ordered : (c : Case) (order : Option Ranking) (b : Bool) → b ≡ is_some order → Orders c order → IsTrue b ↔ Meets c A2
 ordered c None b e o = (λ t. no (sym e ∙ t), λ m. absurd (o m))
 ordered c (Some order) b e o = (λ t. o.0, λ m. e)
 
-pub unordered : (c : Case) (order : Option Ranking) → order ≡ None → Orders c order → (rule : Told) → rule ≡ declared.A12 → MeetsBefore c (named rule)
-    → IsTrue false ↔ Meets c (named rule)
+pub unordered : (c : Case) (order : Option Ranking) → order ≡ None → Orders c order → (rule : Rule) → rule ≡ A12 → MeetsBefore c rule
+    → IsTrue false ↔ Meets c rule
 unordered c order none o rule e before =
-    let earlier : MeetsBefore c A12 = subst (λ (r : Told). MeetsBefore c (named r)) e before in
+    let earlier : MeetsBefore c A12 = subst (λ (r : Rule). MeetsBefore c r) e before in
     let not : Meets c A2 → ⊥ = subst (λ (x : Option Ranking). Orders c x) none o in
     absurd (not (earlier A2 (omega arith)))

@@ -14,7 +14,8 @@ use Rattle.emu_machine.specs.declared.netlist.EmuGate.{EmuGate}
 use Rattle.emu_machine.specs.declared.place.Place.TheVariants as place
 use Rattle.emu_machine.specs.Netlist.{chip_at, is_chip_net, net_drivers, LeadsTo, next, through as lead_through, IsOnCycle}
 use Rattle.emu_machine.specs.Plain.{IsPlainGate}
-use Rattle.emu_machine.specs.Acceptance.{Case, A2}
+use Rattle.emu_machine.specs.declared.rule.Rule.TheVariants.{A2}
+use Rattle.emu_machine.specs.Acceptance.{Case}
 use Rattle.facts.proofs.Tests.{number_same, same_number}
 use Rattle.schedule_check.specs.Cycles.{none, gate_named, IsTableOf, gate_row, AreGateRows}
 use Rattle.schedule_check.specs.Verdict.{IsPlainCase, Meets}

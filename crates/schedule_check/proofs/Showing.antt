@@ -21,7 +21,8 @@ use Rattle.emu_machine.specs.Mapped.{subject, chip_map, is_kept, kept_by_registe
 use Rattle.emu_machine.specs.Marks.{Mark, no_mark, only_before, copied_mark}
 use Rattle.emu_machine.specs.Plain.{IsPlainGate}
 use Rattle.emu_machine.specs.Origins.{gate_fits}
-use Rattle.emu_machine.specs.Acceptance.{Case, A7, A12, shows_before, plain_gate_mark}
+use Rattle.emu_machine.specs.declared.rule.Rule.TheVariants.{A7, A12}
+use Rattle.emu_machine.specs.Acceptance.{Case, shows_before, plain_gate_mark}
 use Rattle.facts.proofs.Tests.{number_same, same_number, found}
 use Rattle.schedule_check.specs.Cycles.{IsGateOrder}
 use Rattle.schedule_check.specs.Ends.{AreMarkedAlso}

@@ -21,7 +21,8 @@ use Rattle.emu_machine.specs.declared.place.Thing.{Thing}
 use Rattle.emu_machine.specs.declared.place.Thing.TheVariants as thing
 use Rattle.emu_machine.specs.Netlist.{chip_at}
 use Rattle.emu_machine.specs.State.{frame_slots, actions_of, Timed, timed, is_last, slots_taken}
-use Rattle.emu_machine.specs.Acceptance.{Case, A4, A5, A6, is_hold, is_loaded, register_at, same_thing, used_if, uses_thing, UsesAgain}
+use Rattle.emu_machine.specs.declared.rule.Rule.TheVariants.{A4, A5, A6}
+use Rattle.emu_machine.specs.Acceptance.{Case, is_hold, is_loaded, register_at, same_thing, used_if, uses_thing, UsesAgain}
 use Rattle.emu_machine.proofs.OneSlot.{in_take, one_last, one_taken, IsEarlier, earlier_is, earlier_here}
 use Rattle.facts.proofs.Counting.{count_here, count_there, counted}
 use Rattle.facts.proofs.Lists.{any_at}

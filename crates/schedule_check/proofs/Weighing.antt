@@ -7,7 +7,8 @@ use Rattle.emu_machine.specs.declared.schedule.Frame.{Frame}
 use Rattle.emu_machine.specs.declared.place.Place.{Place}
 use Rattle.emu_machine.specs.declared.place.Place.TheVariants as place
 use Rattle.emu_machine.specs.Netlist.{chip_at}
-use Rattle.emu_machine.specs.Acceptance.{Case, A1, A3, A4, memory_weight, chip_weight, frame_differs, frame_fits, FailsA3, FailsA4}
+use Rattle.emu_machine.specs.declared.rule.Rule.TheVariants.{A1, A3, A4}
+use Rattle.emu_machine.specs.Acceptance.{Case, memory_weight, chip_weight, frame_differs, frame_fits, FailsA3, FailsA4}
 use Rattle.schedule_check.specs.Verdict.{IsPlainCase, Meets, all_inputs, gate_weights}
 use Rattle.schedule_check.proofs.Chips.{plain_chip, groups_are}
 use Rattle.std.proofs.lemmas.Bool.Decides.{nat_tests}

@@ -5,7 +5,8 @@ use Rattle.graph_rank.specs.Ranks.{Ranking, IsRanking}
 use Rattle.emu_machine.specs.declared.netlist.Chip.{Chip}
 use Rattle.emu_machine.specs.declared.netlist.EmuGate.{EmuGate}
 use Rattle.emu_machine.specs.Netlist.{chip_at}
-use Rattle.emu_machine.specs.Acceptance.{Case, A2}
+use Rattle.emu_machine.specs.declared.rule.Rule.TheVariants.{A2}
+use Rattle.emu_machine.specs.Acceptance.{Case}
 use Rattle.schedule_check.specs.Verdict.{Meets}
 
 -- the number that stands for no gate

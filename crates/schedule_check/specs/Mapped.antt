@@ -6,7 +6,7 @@ use Rattle.id_arena.specs.declared.keys.NetId.{NetId}
 use Rattle.emu_machine.specs.declared.netlist.EmuRegister.{EmuRegister}
 use Rattle.emu_machine.specs.declared.map.Spot.{Spot}
 use Rattle.emu_machine.specs.declared.map.Subject.TheVariants.{Net}
-use Rattle.emu_machine.specs.declared.results.Results.{Results}
+use Rattle.emu_machine.specs.Results.{Results}
 use Rattle.emu_machine.specs.Origins.{has_subject}
 use Rattle.emu_machine.specs.Acceptance.{Case, same_subjects, spot_subject}
 

@@ -15,15 +15,13 @@ use Rattle.design_core.specs.Dependency.{IsRanked}
 use Rattle.design_core.specs.Influence.{Group}
 use Rattle.design_core.specs.Plain.{IsPlain}
 use Rattle.emu_machine.specs.declared.netlist.EmuGate.{EmuGate}
-use Rattle.emu_machine.specs.declared.results.Results.{Results}
+use Rattle.emu_machine.specs.Results.{Results}
 use Rattle.emu_machine.specs.Netlist.{IsNetlist}
 use Rattle.emu_machine.specs.Acceptance.{Case, Influences, Holds, IsAccepted, rule_number, subject_weight}
-use Rattle.emu_machine.specs.Acceptance as acceptance
+use Rattle.emu_machine.specs.declared.rule.Rule.{Rule}
 use Rattle.emu_machine.specs.Mapped.{subject}
-use Rattle.emu_machine.specs.Law.{MapFits}
+use Rattle.emu_machine.specs.Results.{MapFits}
 use Rattle.emu_machine.specs.Plain.{IsPlainResults}
-use Rattle.schedule_check.specs.declared.verdict.Rule.{Rule}
-use Rattle.schedule_check.specs.declared.verdict.Rule.TheVariants.{A1, A2, A3, A4, A5, A6, A7, A8, A9, A10, A11, A12}
 use Rattle.schedule_check.specs.declared.verdict.Verdict.{Verdict}
 use Rattle.schedule_check.specs.declared.verdict.Verdict.TheVariants.{Accepted, Rejected}
 
@@ -51,33 +49,18 @@ pub record IsPlainCase (c : Case) : Type 0 where
   pub mapped : MapFits c.results
   pub netlist : IsNetlist c.results.net
 
--- the rule of the definitions that a rule of the code names
-abbrev pub named : Rule → acceptance.Rule
-named A1 = acceptance.A1
-named A2 = acceptance.A2
-named A3 = acceptance.A3
-named A4 = acceptance.A4
-named A5 = acceptance.A5
-named A6 = acceptance.A6
-named A7 = acceptance.A7
-named A8 = acceptance.A8
-named A9 = acceptance.A9
-named A10 = acceptance.A10
-named A11 = acceptance.A11
-named A12 = acceptance.A12
-
 -- a rule does not hold, and all rules before it do
-pub record FailsFirst (c : Case) (rule : acceptance.Rule) : Type 0 where
+pub record FailsFirst (c : Case) (rule : Rule) : Type 0 where
   pub inside : ℕ → NodeId → Bool
   pub influences : Influences c inside
-  pub earlier : (other : acceptance.Rule) → rule_number other < rule_number rule → Holds c inside other
+  pub earlier : (other : Rule) → rule_number other < rule_number rule → Holds c inside other
   pub fails : Holds c inside rule → ⊥
 
 -- a verdict is right: results are accepted where the twelve rules hold, and
 -- else the first rule that does not hold is named
 abbrev pub IsRight : Case → Verdict → Type 0
 IsRight c Accepted = IsAccepted c
-IsRight c (Rejected rule) = FailsFirst c (named rule)
+IsRight c (Rejected rule) = FailsFirst c rule
 
 -- ## Inside the judge
 
@@ -97,12 +80,12 @@ Stem p n (Some g) =
     (e : ElemId) × (output : NetId) × (driver p n ≡ Elem e) × (slice_get p.elements e.place ≡ Some (Gate g.0 (g.1 ∷ []) output))
 
 -- a rule holds of a plain case
-abbrev pub Meets : Case → acceptance.Rule → Type 0
+abbrev pub Meets : Case → Rule → Type 0
 Meets c rule = Holds c (λ k. inside_all c.design) rule
 
 -- all rules before one hold of a plain case
-abbrev pub MeetsBefore : Case → acceptance.Rule → Type 0
-MeetsBefore c rule = (other : acceptance.Rule) → rule_number other < rule_number rule → Meets c other
+abbrev pub MeetsBefore : Case → Rule → Type 0
+MeetsBefore c rule = (other : Rule) → rule_number other < rule_number rule → Meets c other
 
 -- the group of all inputs
 abbrev pub all_inputs : Parts → Group

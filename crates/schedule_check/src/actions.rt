@@ -2,7 +2,8 @@
 
 ghost use Rattle.std.specs.Prelude.{◌↔◌, ◌≡◌, IsTrue, Some};
 ghost use Rattle.std.specs.List.{list_all};
-ghost use Rattle.emu_machine.specs.Acceptance.{A5, A8, is_hold, keeps_subject, register_at, register_subject, same_subjects};
+ghost use Rattle.emu_machine.specs.declared.rule.Rule.TheVariants.{A5, A8};
+ghost use Rattle.emu_machine.specs.Acceptance.{is_hold, keeps_subject, register_at, register_subject, same_subjects};
 ghost use Rattle.emu_machine.specs.declared.map.Subject.TheVariants.{Net};
 ghost use Rattle.schedule_check.specs.Actions.{is_there, passes, slots_pass};
 ghost use Rattle.schedule_check.specs.Verdict.{Meets, MeetsBefore};

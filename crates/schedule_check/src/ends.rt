@@ -2,7 +2,8 @@
 
 ghost use Rattle.std.specs.Prelude.{◌<◌, ◌↔◌, ◌≡◌, ℕ, IfOk, IsTrue, false, get_or, length, not, ◌||◌};
 ghost use Rattle.std.specs.List.{list_any};
-ghost use Rattle.emu_machine.specs.Acceptance.{A11, is_inside};
+ghost use Rattle.emu_machine.specs.declared.rule.Rule.TheVariants.{A11};
+ghost use Rattle.emu_machine.specs.Acceptance.{is_inside};
 ghost use Rattle.emu_machine.specs.Mapped.{subject};
 ghost use Rattle.emu_machine.specs.Netlist.{chip_at};
 ghost use Rattle.emu_machine.specs.State.{frame_slots};

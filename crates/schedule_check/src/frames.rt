@@ -1,7 +1,8 @@
 //! A4: the one frame.
 
 ghost use Rattle.std.specs.Prelude.{◌↔◌, ◌≡◌, IsTrue};
-ghost use Rattle.emu_machine.specs.Acceptance.{A4, frame_fits};
+ghost use Rattle.emu_machine.specs.declared.rule.Rule.TheVariants.{A4};
+ghost use Rattle.emu_machine.specs.Acceptance.{frame_fits};
 ghost use Rattle.schedule_check.specs.Verdict.{all_inputs, Meets};
 
 use crate::plain_case::PlainCase;

@@ -4,12 +4,11 @@ ghost use Rattle.std.specs.Prelude.{◌+◌, ◌<◌, ◌↔◌, ◌≡◌, IfOk
 ghost use Rattle.design_core.specs.Dependency.{IsRanked};
 ghost use Rattle.design_core.specs.Plain.{IsPlain};
 ghost use Rattle.emu_machine.specs.Acceptance.{rule_number};
-ghost use Rattle.emu_machine.specs.Law.{MapFits};
-ghost use Rattle.emu_machine.specs.Netlist.{IsNetlist};
 ghost use Rattle.emu_machine.specs.Plain.{IsPlainResults};
 ghost use Rattle.schedule_check.specs.Cycles.{Orders};
-ghost use Rattle.schedule_check.specs.Verdict.{named, plain_case, IsRight, Meets, MeetsBefore};
+ghost use Rattle.schedule_check.specs.Verdict.{plain_case, IsRight, Meets, MeetsBefore};
 
+use crate::Verdict;
 use crate::actions::{actions_are_there, actions_keep_subjects};
 use crate::cycles::gate_order;
 use crate::ends::ends_are_done;
@@ -20,10 +19,9 @@ use crate::outputs::outputs_show_before;
 use crate::plain_case::PlainCase;
 use crate::uses::uses_are_single;
 use crate::weights::has_room;
-use crate::{Rule, Verdict};
 use design_core::Design;
 use emu_io::NoMemory;
-use emu_machine::Results;
+use emu_machine::{Results, Rule};
 use graph_rank::Order;
 use std::alloc::Global;
 
@@ -41,8 +39,6 @@ pub fn judge(
     requires plain { IsPlain design.now }
     requires ranked { IsRanked design.now }
     requires results { IsPlainResults results.now }
-    requires mapped { MapFits results.now }
-    requires netlist { IsNetlist results.now.net }
     ensures { IfOk result (λ verdict. IsRight (plain_case design.now room slots results.now) verdict) }
 {
     let case = PlainCase::new(design, room, slots, results);
@@ -75,7 +71,7 @@ fn judge_rules(alloc: Global, case: &PlainCase, order: &Option<Order>) -> Result
 /// The rule with this number of rules before it.
 fn rule_at(k: u8) -> Rule
     requires { k < 12 }
-    ensures { rule_number (named result) ≡ k + 1 }
+    ensures { rule_number result ≡ k + 1 }
 {
     match k {
         0 => Rule::A1,
@@ -102,8 +98,8 @@ fn holds(
     rule: Rule,
 ) -> Result<bool, NoMemory>
     requires order { Orders case.now order.now }
-    requires before { MeetsBefore case.now (named rule) }
-    ensures { IfOk result (λ held. IsTrue held ↔ Meets case.now (named rule)) }
+    requires before { MeetsBefore case.now rule }
+    ensures { IfOk result (λ held. IsTrue held ↔ Meets case.now rule) }
 {
     case.stands();
     match rule {

@@ -19,5 +19,6 @@ mod uses;
 mod verdict;
 mod weights;
 
+pub use emu_machine::Rule;
 pub use judging::judge;
-pub use verdict::{Rule, Verdict};
+pub use verdict::Verdict;

@@ -4,7 +4,8 @@ ghost use Rattle.std.specs.Prelude.{◌↔◌, ◌≡◌, IfOk, IsTrue, Some, le
 ghost use Rattle.std.specs.List.{list_all};
 ghost use Rattle.design_core.specs.Design.{net_count, port_bits};
 ghost use Rattle.emu_machine.specs.declared.map.Subject.TheVariants.{Net};
-ghost use Rattle.emu_machine.specs.Acceptance.{A9, same_subjects, spot_subject};
+ghost use Rattle.emu_machine.specs.declared.rule.Rule.TheVariants.{A9};
+ghost use Rattle.emu_machine.specs.Acceptance.{same_subjects, spot_subject};
 ghost use Rattle.emu_machine.specs.Mapped.{chip_map};
 ghost use Rattle.emu_machine.specs.Netlist.{chip_at};
 ghost use Rattle.schedule_check.specs.Mapped.{is_marked, IsMarkedAlso, AreKept, Leaves, shown};

@@ -5,7 +5,7 @@ ghost use Rattle.std.specs.List.{list_all};
 ghost use Rattle.emu_machine.specs.declared.map.Subject.TheVariants.{Net};
 ghost use Rattle.emu_machine.specs.declared.netlist.EmuGate.{EmuGate};
 ghost use Rattle.emu_machine.specs.declared.netlist.EmuRegister.{EmuRegister};
-ghost use Rattle.emu_machine.specs.Acceptance.{A7};
+ghost use Rattle.emu_machine.specs.declared.rule.Rule.TheVariants.{A7};
 ghost use Rattle.emu_machine.specs.Netlist.{chip_at};
 ghost use Rattle.emu_machine.specs.Origins.{gate_fits, have_subjects, register_fits};
 ghost use Rattle.emu_machine.specs.Plain.{IsPlainGate, IsPlainRegister};

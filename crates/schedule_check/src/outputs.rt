@@ -3,7 +3,7 @@
 ghost use Rattle.std.specs.Prelude.{◌&&◌, ◌<◌, ◌↔◌, ◌≡◌, ℕ, Bool, IfOk, IsTrue, false, get_or, length};
 ghost use Rattle.std.specs.List.{list_all};
 ghost use Rattle.emu_machine.specs.declared.netlist.EmuGate.{EmuGate};
-ghost use Rattle.emu_machine.specs.Acceptance.{A12};
+ghost use Rattle.emu_machine.specs.declared.rule.Rule.TheVariants.{A12};
 ghost use Rattle.emu_machine.specs.Mapped.{chip_map, kept_by_register};
 ghost use Rattle.emu_machine.specs.Netlist.{chip_at, is_chip_net};
 ghost use Rattle.schedule_check.specs.Cycles.{IsGateOrder};

@@ -4,12 +4,11 @@ ghost use Rattle.std.specs.Prelude.{[], ◌<◌, ◌≡◌, ◌∷◌, length, o
 ghost use Rattle.design_core.specs.Design.{driver, includes, net_count, port_bits};
 ghost use Rattle.emu_machine.specs.declared.map.Subject.TheVariants.{Net};
 ghost use Rattle.emu_machine.specs.Acceptance.{register_at, same_subjects};
-ghost use Rattle.emu_machine.specs.Netlist.{chip_at, IsNetlist};
+ghost use Rattle.emu_machine.specs.Netlist.{chip_at};
 ghost use Rattle.emu_machine.specs.Mapped.{chip_map, subject};
 ghost use Rattle.emu_machine.specs.Origins.{has_subject};
 ghost use Rattle.design_core.specs.Dependency.{IsRanked};
 ghost use Rattle.design_core.specs.Plain.{IsPlain};
-ghost use Rattle.emu_machine.specs.Law.{MapFits};
 ghost use Rattle.emu_machine.specs.Plain.{IsNetSubject, IsPlainResults};
 ghost use Rattle.emu_machine.specs.State.{frame_slots};
 ghost use Rattle.schedule_check.specs.Verdict.{plain_case, IsPlainCase, Stem};
@@ -50,11 +49,10 @@ impl<'a> PlainCase<'a> {
         requires plain { IsPlain design.now }
         requires ranked { IsRanked design.now }
         requires results { IsPlainResults results.now }
-        requires mapped { MapFits results.now }
-        requires netlist { IsNetlist results.now.net }
         ensures { result ≡ plain_case design.now room slots results.now }
     {
         design.stands();
+        results.stand();
         PlainCase {
             design,
             room,
@@ -116,14 +114,14 @@ impl<'a> PlainCase<'a> {
     pub(crate) fn chip(&self) -> &Chip
         ensures { result.now ≡ chip_at self.now.results.net 0 }
     {
-        self.results.net.get(0)
+        self.results.net().chips().get(0)
     }
 
     /// The chip's entry in the map.
     pub(crate) fn entry(&self) -> &ChipMap
         ensures { result.now ≡ chip_map self.now.results 0 }
     {
-        self.results.map.chips.get(0)
+        self.results.map().chips.get(0)
     }
 
     /// The number of nets of the chip.
@@ -164,7 +162,7 @@ impl<'a> PlainCase<'a> {
     pub(crate) fn modules(&self) -> u64
         ensures { result ≡ length self.now.results.net }
     {
-        self.results.net.len()
+        self.results.net().chips().len()
     }
 
     /// For each register of the chip, whether it is kept.
@@ -178,21 +176,21 @@ impl<'a> PlainCase<'a> {
     pub(crate) fn frames(&self) -> &[Frame]
         ensures { result.now ≡ self.now.results.schedule.frames }
     {
-        self.results.schedule.frames.as_slice()
+        self.results.schedule().frames.as_slice()
     }
 
     /// The nets that show the output bits.
     pub(crate) fn outputs(&self) -> &[Spot]
         ensures { result.now ≡ self.now.results.map.outputs }
     {
-        self.results.map.outputs.as_slice()
+        self.results.map().outputs.as_slice()
     }
 
     /// The slots of the first frame, and none where no frame is there.
     pub(crate) fn frame_slots(&self) -> &[Slot]
         ensures { result.now ≡ frame_slots self.now.results 0 }
     {
-        match self.results.schedule.frames.as_slice() {
+        match self.results.schedule().frames.as_slice() {
             [] => &[],
             [frame, ..] => frame.slots.as_slice(),
         }

@@ -3,7 +3,7 @@
 ghost use Rattle.std.specs.Prelude.{◌<◌, ◌↔◌, ◌≡◌, ◌≤◌, ℕ, IfOk, IsTrue, Some, get_or, length, replicate, slice_get};
 ghost use Rattle.std.specs.List.{list_all};
 ghost use Rattle.emu_machine.specs.declared.schedule.Slot.{Slot};
-ghost use Rattle.emu_machine.specs.Acceptance.{A6};
+ghost use Rattle.emu_machine.specs.declared.rule.Rule.TheVariants.{A6};
 ghost use Rattle.emu_machine.specs.Netlist.{chip_at};
 ghost use Rattle.schedule_check.specs.Uses.{AreUsedOnce, IsUsedOnce, Stamps, target, target_below};
 ghost use Rattle.schedule_check.specs.Verdict.{Meets, MeetsBefore};

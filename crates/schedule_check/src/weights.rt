@@ -2,7 +2,8 @@
 
 ghost use Rattle.std.specs.Prelude.{[], ◌<◌, ◌↔◌, ◌≡◌, ◌≤◌, ◌∷◌, ℕ, IsTrue, length, slice_get, Some};
 ghost use Rattle.emu_machine.specs.declared.netlist.EmuGate.{EmuGate};
-ghost use Rattle.emu_machine.specs.Acceptance.{A3, subject_weight};
+ghost use Rattle.emu_machine.specs.declared.rule.Rule.TheVariants.{A3};
+ghost use Rattle.emu_machine.specs.Acceptance.{subject_weight};
 ghost use Rattle.emu_machine.specs.Mapped.{subject};
 ghost use Rattle.schedule_check.specs.Verdict.{gate_weights, Meets};
 

@@ -24,7 +24,7 @@ use Rattle.design_core.specs.Settled.{IsReadBit}
 use Rattle.design_core.specs.Event.{ElementFollows}
 use Rattle.emu_machine.specs.declared.map.Subject.{Subject}
 use Rattle.emu_machine.specs.declared.map.Subject.TheVariants.{Net, Up, Down, Take, Next, TakeWrite, Old, TakeRead}
-use Rattle.emu_machine.specs.declared.results.Results.{Results}
+use Rattle.emu_machine.specs.Results.{Results}
 use Rattle.emu_machine.specs.Mapped.{subject, subject_value, as_flop, flop_at, flop_takes, flop_next, read_takes, design_read}
 use Rattle.emu_machine.specs.Origins.{flop_loading, read_loading, driver_loading, loading_of, loading_fits}
 use Rattle.marks_law.specs.Facts.{EventFacts}

@@ -4,7 +4,7 @@ use Rattle.cycle_sim.proofs.pass.settle_all.Goals as goal
 
 pub settle-requires-clause-steps : goal.settle-requires-clause-steps
 settle-requires-clause-steps c =
-    steps_here c.args.results.now c.args.steps.now c.requires.steps c.chips.c c.get.result.now c.get.ensures c.index-steps-c.result c.index-steps-c.is
+    steps_here c.args.results.now c.args.steps.now c.requires.steps c.chips.c c.chip_of.result.now c.chip_of.ensures c.index-steps-c.result c.index-steps-c.is
     c.as_slice.result.now c.as_slice.ensures
 
 pub returns : goal.returns

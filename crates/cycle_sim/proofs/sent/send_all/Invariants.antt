@@ -1,6 +1,6 @@
 -- The last actions have been done.
 use Rattle.std.proofs.Common.{◌≡◌, ◌≤◌, drop, length}
-use Rattle.emu_machine.specs.declared.results.Results.{Results}
+use Rattle.emu_machine.specs.Results.{Results}
 use Rattle.cycle_sim.specs.Takes.{HasSent}
 use Rattle.cycle_sim.proofs.sent.send_all.Given as goal
 

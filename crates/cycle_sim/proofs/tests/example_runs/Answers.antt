@@ -1,5 +1,5 @@
 use Rattle.std.proofs.Common.{[], sym, subst}
-use Rattle.emu_machine.specs.declared.results.Results.{Results}
+use Rattle.emu_machine.specs.Results.{Results}
 use Rattle.cycle_sim.specs.Standing.{CanRun}
 use Rattle.cycle_sim.proofs.Examples as examples
 use Rattle.cycle_sim.proofs.tests.example_runs.Goals as goal

@@ -1,6 +1,6 @@
 use Rattle.std.proofs.Common.{List, sym, subst}
 use Rattle.id_arena.specs.declared.wire.Wire.{Wire}
-use Rattle.emu_machine.specs.declared.results.Results.{Results}
+use Rattle.emu_machine.specs.Results.{Results}
 use Rattle.cycle_sim.specs.Relay.{relay_results}
 use Rattle.cycle_sim.specs.Standing.{CanRun}
 use Rattle.cycle_sim.proofs.Examples as examples

@@ -1,6 +1,6 @@
 -- The tests of the code come to the rule.
 use Rattle.std.proofs.Common.{◌∙◌, ap, arith}
-use Rattle.emu_machine.specs.Acceptance.{A4}
+use Rattle.emu_machine.specs.declared.rule.Rule.TheVariants.{A4}
 use Rattle.emu_machine.specs.State.{frame_slots}
 use Rattle.schedule_check.specs.declared.actions.Test.TheVariants.{KeepsSubject}
 use Rattle.schedule_check.specs.Actions.{slots_pass}

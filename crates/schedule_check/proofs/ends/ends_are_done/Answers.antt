@@ -1,6 +1,6 @@
 -- What the tests find is what the rule asks for.
 use Rattle.std.proofs.Common.{arith}
-use Rattle.emu_machine.specs.Acceptance.{A4, A5}
+use Rattle.emu_machine.specs.declared.rule.Rule.TheVariants.{A4, A5}
 use Rattle.schedule_check.proofs.Ending.{a11_tested}
 use Rattle.schedule_check.proofs.ends.ends_are_done.Goals as goal
 

@@ -1,5 +1,6 @@
 use Rattle.std.proofs.Common.{◌+◌, ◌<◌}
-use Rattle.emu_machine.specs.Acceptance.{Rule, rule_number}
+use Rattle.emu_machine.specs.declared.rule.Rule.{Rule}
+use Rattle.emu_machine.specs.Acceptance.{rule_number}
 use Rattle.schedule_check.specs.Verdict.{Meets}
 use Rattle.schedule_check.proofs.judging.judge_rules.Given as goal
 

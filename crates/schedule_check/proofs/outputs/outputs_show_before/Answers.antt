@@ -1,7 +1,7 @@
 -- The table tells what comes through the gates.
 use Rattle.std.proofs.Common.{arith, ◌∙◌, ap}
 use Rattle.std.specs.List.{list_all}
-use Rattle.emu_machine.specs.Acceptance.{A7}
+use Rattle.emu_machine.specs.declared.rule.Rule.TheVariants.{A7}
 use Rattle.schedule_check.specs.Outputs.{shows}
 use Rattle.schedule_check.proofs.Showing.{a12_tested}
 use Rattle.schedule_check.proofs.Passing.{same_test}

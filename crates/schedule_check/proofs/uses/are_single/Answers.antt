@@ -3,7 +3,7 @@ use Rattle.std.proofs.Common.{◌<◌, ◌∙◌, sym, ap, subst, List, length, 
 use Rattle.std.specs.Prelude.{IsTrue}
 use Rattle.std.specs.List.{list_all}
 use Rattle.emu_machine.specs.declared.schedule.Slot.{Slot}
-use Rattle.emu_machine.specs.Acceptance.{A4, A5}
+use Rattle.emu_machine.specs.declared.rule.Rule.TheVariants.{A4, A5}
 use Rattle.schedule_check.specs.Uses.{AreUsedOnce, target_below}
 use Rattle.schedule_check.proofs.Acting.{few_slots}
 use Rattle.schedule_check.proofs.Twice.{a6_tested, targets_there}
