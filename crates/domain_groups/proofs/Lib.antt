@@ -1,13 +1,17 @@
 mod Collected
 mod Faulty
-mod FirstPorts
+pub mod FirstPorts
+mod FittingEvents
 mod FrameRows
 mod GroupNets
 mod Items
 mod MemberRows
 mod NodeMarks
-mod OneAnswer
+mod OneOpening
+pub mod OnePath
+mod OneRecording
 mod Placed
 mod Spreading
 mod TableBits
 mod WriteMarks
+pub mod Zips
