@@ -4,7 +4,7 @@ use Rattle.std.proofs.Math.Nat.{div-div-eq-div-mul, div-one, pow-succ'}
 use Rattle.std.proofs.lemmas.List.{drop-drop}
 use Rattle.std.specs.Char.{digit_char}
 use Rattle.design_core.specs.Operation.{bit, number}
-use Rattle.event_replay.specs.Traces.{hex_text}
+use Rattle.domain_groups.specs.Traces.{hex_text}
 
 bit_below : (b : Bool) → bit b < 2
 bit_below true = omega arith

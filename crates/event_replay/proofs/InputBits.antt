@@ -12,7 +12,8 @@ use Rattle.design_core.specs.declared.parts.Port.{Port}
 use Rattle.design_core.specs.declared.values.PortBit.{PortBit}
 use Rattle.design_core.specs.Design.{IsDesign, driver, driver_count, includes, is_net, net_count, port_bits}
 use Rattle.design_core.specs.Operation.{bit_of}
-use Rattle.event_replay.specs.Settings.{Setting, IsOfPort, AreSet, AreInputBits, bits_set}
+use Rattle.domain_groups.specs.Settings.{Setting, bits_set}
+use Rattle.event_replay.specs.Settings.{IsOfPort, AreSet, AreInputBits}
 use Rattle.event_replay.specs.Values.{shown_bits}
 
 -- how often a net is given a value

@@ -1,16 +1,23 @@
 mod Answering
+mod Entered
 mod EventInputs
-mod FirstPorts
+mod GivenInputs
+mod Growing
 mod HexDigits
 mod InRange
 mod InputBits
-mod OneOpening
+mod Judging
+mod Leading
+mod Ones
+mod Opened
 mod OutputBits
 mod Pieces
 mod ReadDigits
+mod ReadWords
 pub mod RunGrowth
+mod SameNames
 mod SettledRuns
-mod Taken
+mod Sifting
 mod Told
 pub mod TraceGrowth
-mod Zips
+mod Valued

@@ -1,11 +1,11 @@
 -- How lines and words are taken off a text one by one.
-use Rattle.std.proofs.Common.{◌≡◌, ◌≢◌, ℕ, zero, suc, ◌+◌, ◌<◌, ◌≤◌, ◌==◌, ltb, Bool, true, false, List, [], ◌∷◌, ◌++◌, map, filter, take, drop, get_or, length, All, refl, sym, ap, ◌∙◌, arith, take-append-drop, length-drop}
-use Rattle.std.specs.List.{list_any, slice_split}
+use Rattle.std.proofs.Common.{◌≡◌, ◌≢◌, ℕ, zero, suc, ◌+◌, ◌<◌, ◌≤◌, ◌==◌, ◌&&◌, ltb, Bool, true, false, List, [], ◌∷◌, ◌++◌, map, filter, take, drop, get_or, length, All, refl, sym, ap, ◌∙◌, arith, take-append-drop, length-drop}
+use Rattle.std.specs.List.{list_all, slice_split}
 use Rattle.std.proofs.lemmas.Bool.{ne_eqb, eq-eqb, true≢false, cond-true, or_from, lt-ltb}
 use Rattle.std.proofs.lemmas.List.{length-take-le, get_or-take, get_or-drop, drop_more, drop_all}
 use Rattle.std.proofs.lemmas.List.Elements.{All-from_get_or}
 use Rattle.std.proofs.lemmas.List.Splits.{slice_split_at, slice_split_none, slice_split-cons_yes}
-use Rattle.event_replay.specs.Lines.{is_newline, is_blank, without_returns, lines, words}
+use Rattle.domain_groups.specs.Lines.{IsParted, has_equals, is_equals, is_newline, is_blank, without_returns, lines, words}
 
 -- a list is what stands before a place, what stands there, and what stands after it
 split_around : (xs : List ℕ) (i : ℕ) → i < length xs → take i xs ++ get_or xs i 0 ∷ drop (i + 1) xs ≡ xs
@@ -54,18 +54,22 @@ word_last line some none =
     ap (filter (λ word. ltb 0 (length word))) (uncut is_blank line none)
     ∙ cond-true (ltb 0 (length line)) _ _ (lt-ltb 0 (length line) some)
 
-pub none_past : (xs : List ℕ) → ((k : ℕ) → k < length xs → get_or xs k 0 ≢ 61) → list_any (λ byte. byte == 61) xs ≡ false
+pub none_past : (xs : List ℕ) → ((k : ℕ) → k < length xs → get_or xs k 0 ≢ 61) → has_equals xs ≡ false
 none_past [] h = refl
-none_past (x ∷ xs) h = or_from (x == 61) (list_any (λ byte. byte == 61) xs) (ne_eqb x 61 (h 0 (omega arith))) (none_past xs (λ k below. h (suc k) (omega arith)))
+none_past (x ∷ xs) h = or_from (is_equals x) (has_equals xs) (ne_eqb x 61 (h 0 (omega arith))) (none_past xs (λ k below. h (suc k) (omega arith)))
 
 -- a word is parted at its last `=`
-pub parted : (word : List ℕ) (i : ℕ) → i < length word → get_or word i 0 ≡ 61 → ((k : ℕ) → i + 1 ≤ k → k < length word → get_or word k 0 ≢ 61)
-    → (word ≡ take i word ++ 61 ∷ drop (i + 1) word) × (list_any (λ byte. byte == 61) (drop (i + 1) word) ≡ false)
-parted word i inside here after = (
-  sym (ap (λ b. take i word ++ b ∷ drop (i + 1) word) (sym here) ∙ split_around word i inside),
-  none_past (drop (i + 1) word) (λ k below.
-      let there = get_or-drop (i + 1) word k 0 in let differs = after (i + 1 + k) (omega arith) (omega (arith, length-drop (i + 1) word)) in rw there differs),
-)
+pub parted : (word : List ℕ) (i : ℕ) → i < length word → get_or word i 0 ≡ 61 → ((k : ℕ) → i + 1 ≤ k → k < length word → get_or word k 0 ≢ 61) → IsParted word (take i word) (drop (i + 1) word)
+parted word i inside here after = record {
+  parts = sym (ap (λ b. take i word ++ b ∷ drop (i + 1) word) (sym here) ∙ split_around word i inside);
+  last = none_past (drop (i + 1) word) (λ k below.
+      let there = get_or-drop (i + 1) word k 0 in let differs = after (i + 1 + k) (omega arith) (omega (arith, length-drop (i + 1) word)) in rw there differs);
+}
+
+-- a line of blanks
+pub all_blank : (line : List ℕ) → ((k : ℕ) → k < length line → is_blank (get_or line k 0) ≡ true) → list_all is_blank line ≡ true
+all_blank [] h = refl
+all_blank (b ∷ bs) h = ap (λ t. t && list_all is_blank bs) (h 0 (omega arith)) ∙ all_blank bs (λ k below. h (suc k) (omega arith))
 
 -- a blank is not at the front of a line that does not begin with one
 pub after_first : (line : List ℕ) (i : ℕ) → is_blank (get_or line i 0) ≡ true → is_blank (get_or line 0 0) ≡ false → 0 < i

@@ -10,11 +10,11 @@ use Rattle.design_core.specs.declared.parts.Port.{Port}
 use Rattle.design_core.specs.declared.values.Event.{Event}
 use Rattle.emu_io.specs.declared.files.StoreFault.{StoreFault}
 use Rattle.emu_io.specs.Sink.{AppendsWhereTold, PutMeans}
-use Rattle.emu_machine.specs.declared.results.Results.{Results}
+use Rattle.emu_machine.specs.Results.{Results}
 use Rattle.emu_machine.specs.State.{State, after_frame, run_of}
 use Rattle.settled_model.specs.Runs.{last_of}
-use Rattle.event_replay.specs.Runs.{spots_of, machine_trace, BreaksOff, Leaves, ReplayMeans}
-use Rattle.event_replay.specs.Traces.{trace_line_of, trace_of}
+use Rattle.domain_groups.specs.Traces.{spots_of, machine_trace, BreaksOff, trace_line_of, trace_of}
+use Rattle.event_replay.specs.Runs.{Leaves, ReplayMeans}
 use Rattle.event_replay.proofs.TraceGrowth.{appends_nothing, last_more, line_broken, line_put, take_next}
 
 -- ## Runs

@@ -12,8 +12,8 @@ use Rattle.emu_io.specs.declared.files.StoreFault.{StoreFault}
 use Rattle.emu_io.specs.Sink.{AppendsWhereTold, PutMeans}
 use Rattle.emu_machine.specs.Headline.{event_values}
 use Rattle.settled_model.proofs.History.{runs_grow}
-use Rattle.event_replay.specs.Runs.{BreaksOff, HaveSettled, Leaves, SettleMeans, outputs_of, settled_trace}
-use Rattle.event_replay.specs.Traces.{trace_line_of, trace_of}
+use Rattle.domain_groups.specs.Traces.{BreaksOff, outputs_of, settled_trace, trace_line_of, trace_of}
+use Rattle.event_replay.specs.Runs.{HaveSettled, Leaves, SettleMeans}
 use Rattle.event_replay.proofs.TraceGrowth.{last_more, line_broken, line_put, take_next}
 
 -- the first events, so many of them, are done, and their trace is written whole

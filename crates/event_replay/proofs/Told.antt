@@ -1,7 +1,7 @@
 -- How the words of a line set ports one by one, and how the lines of a text tell events one by one.
-use Rattle.std.proofs.Common.{◌≡◌, ℕ, ◌+◌, ◌<◌, ◌≤◌, ◌==◌, true, false, not, cond, IsTrue, Option, Some, None, List, [], ◌∷◌, ◌++◌, filter, get_or, set, length, count_by, All, Contains, Result, Ok, Err, IfOk, MatchOption, codes, inl, inr, refl, sym, ap, ◌∙◌, subst, arith, append_assoc, length-set, get_or-set_same, get_or-set_other}
-use Rattle.std.specs.List.{AllZip, AllByRecursion, list_any, list_all}
-use Rattle.std.proofs.lemmas.Bool.{cases_eq, eq-eqb, ne_eqb, cond-true, cond-false, true≢false, or_right, or_from, and_parts}
+use Rattle.std.proofs.Common.{◌≡◌, ℕ, ◌+◌, ◌<◌, ◌≤◌, ◌==◌, true, false, not, cond, Option, Some, None, List, [], ◌∷◌, ◌++◌, filter, get_or, set, length, All, Contains, Result, Ok, Err, IfOk, MatchOption, inl, inr, refl, sym, ap, ◌∙◌, subst, arith, append_assoc, append-nil, length-set, get_or-set_same, get_or-set_other}
+use Rattle.std.specs.List.{AllZip, AllByRecursion, enumerate_from}
+use Rattle.std.proofs.lemmas.Bool.{cases_eq, eq-eqb, ne_eqb, cond-true, cond-false}
 use Rattle.std.proofs.lemmas.List.Elements.{All-nil, All-cons, All-contains}
 use Rattle.std.proofs.lemmas.List.Sums.{sum_by-cons, sum_by-append}
 use Rattle.design_core.specs.declared.parts.Parts.{Parts}
@@ -9,58 +9,30 @@ use Rattle.design_core.specs.declared.parts.Port.{Port}
 use Rattle.design_core.specs.declared.values.Event.{Event}
 use Rattle.design_core.specs.declared.values.PortBit.{PortBit}
 use Rattle.design_core.specs.Design.{IsDesign}
-use Rattle.event_replay.specs.declared.fault.TextFault.{TextFault}
-use Rattle.event_replay.specs.Faults.{Answers}
-use Rattle.event_replay.specs.Events.{AreEarlier, SaysEvents, TellsEvent, WordSets, WordsGive, TextsTellEventsApart}
-use Rattle.event_replay.specs.Lines.{words, event_lines, is_passed_over, lines}
-use Rattle.event_replay.specs.Settings.{Setting, Sets, IsOfPort, AreSet, AreInputBits, EachOnce, bits_set}
-use Rattle.event_replay.specs.Values.{shown_bits, is_hex}
+use Rattle.design_core.specs.Influence.{Group}
+use Rattle.domain_groups.specs.declared.events.EventFault.{EventFault}
+use Rattle.domain_groups.specs.declared.events.EventFault.TheVariants.{BadLine, NoGroup, NoPort, PortTwice, BadValue, NoMemory}
+use Rattle.domain_groups.specs.Events.{WordSets, WordsSet, IsOfGroup, TellsEvent, HasWord, LineHas, LinesTell, SaysEvents, HasEventFault, EventAnswers}
+use Rattle.domain_groups.specs.Groups.{InputGroups}
+use Rattle.domain_groups.specs.Lines.{IsParted, event_lines, is_passed_over, lines}
+use Rattle.domain_groups.specs.Settings.{Setting, EachOnce, bits_set, times_set}
+use Rattle.domain_groups.specs.Values.{shown_bits}
+use Rattle.domain_groups.proofs.Zips.{zip_push}
+use Rattle.event_replay.specs.Events.{AreEarlier, NamesNoPort, NamesAgain, GivesNoValue, WordFails, Stops, WordsGive, WordsAnswer, LineAnswers}
+use Rattle.event_replay.specs.Settings.{IsOfPort, AreSet, AreInputBits}
 use Rattle.event_replay.proofs.InputBits.{input_bits}
-use Rattle.event_replay.proofs.OneOpening.{one_setting}
-use Rattle.event_replay.proofs.Taken.{bits_push}
-use Rattle.event_replay.proofs.Zips.{zip_push, zip_partner, zip_unique, zip_front}
 
-has_equals : (n d : List ℕ) → list_any (λ byte. byte == 61) (n ++ 61 ∷ d) ≡ true
-has_equals [] d = refl
-has_equals (x ∷ n) d = or_right (x == 61) (list_any (λ byte. byte == 61) (n ++ 61 ∷ d)) (has_equals n d)
+-- ## Words
 
--- the same parts of a word
-same_parts : (n m d e : List ℕ) → n ++ 61 ∷ d ≡ m ++ 61 ∷ e → list_any (λ byte. byte == 61) d ≡ false → list_any (λ byte. byte == 61) e ≡ false → (n ≡ m) × (d ≡ e)
-same_parts [] [] d e same none-d none-e = (refl, (cc))
-same_parts [] (x ∷ m) d e same none-d none-e = (let rest : d ≡ m ++ 61 ∷ e = cc in absurd (true≢false (sym (has_equals m e) ∙ ap (list_any (λ byte. byte == 61)) (sym rest) ∙ none-d)))
-same_parts (x ∷ n) [] d e same none-d none-e = (let rest : n ++ 61 ∷ d ≡ e = cc in absurd (true≢false (sym (has_equals n d) ∙ ap (list_any (λ byte. byte == 61)) rest ∙ none-e)))
-same_parts (x ∷ n) (y ∷ m) d e same none-d none-e =
-    let rest : n ++ 61 ∷ d ≡ m ++ 61 ∷ e = cc in
-    let parts = same_parts n m d e rest none-d none-e in
-    let first : x ≡ y = cc in
-    ((λ i. first i ∷ parts.0 i), parts.1)
+-- the bits of one setting more
+bits_push : (settings : List Setting) (s : Setting) → bits_set (settings ++ s ∷ []) ≡ bits_set settings ++ shown_bits s.nets s.number
+bits_push [] s = append-nil (shown_bits s.nets s.number)
+bits_push (t ∷ ts) s = ap (λ bits. shown_bits t.nets t.number ++ bits) (bits_push ts s) ∙ sym (append_assoc (shown_bits t.nets t.number) (bits_set ts) (shown_bits s.nets s.number))
 
--- digits hold no `=`
-no_equals : (digits : List ℕ) → IsTrue (list_all is_hex digits) → list_any (λ byte. byte == 61) digits ≡ false
-no_equals [] hex = refl
-no_equals (d ∷ ds) hex =
-    let both = and_parts (is_hex d) (list_all is_hex ds) hex in
-    or_from (d == 61) (list_any (λ byte. byte == 61) ds) (ne_eqb d 61 (λ e. true≢false (sym both.0 ∙ ap is_hex e))) (no_equals ds both.1)
-
--- a word sets one port in one way
-one_word : (ports : List Port) (word : List ℕ) (s t : Setting) → WordSets ports word s → WordSets ports word t → s ≡ t
-one_word ports word s t a b =
-    let same = same_parts a.name b.name a.digits b.digits (sym a.parts ∙ b.parts) (no_equals a.digits a.sets.value.hex) (no_equals b.digits b.sets.value.hex) in
-    one_setting ports b.name b.digits s t (subst (λ n. Sets ports n b.digits s) same.0 (subst (λ d. Sets ports a.name d s) same.1 a.sets)) b.sets
-
-pub word_stuck : (ports : List Port) (word name digits : List ℕ) → word ≡ name ++ 61 ∷ digits → list_any (λ byte. byte == 61) digits ≡ false → ((s : Setting) → Sets ports name digits s → ⊥) → (s : Setting) → WordSets ports word s → ⊥
-word_stuck ports word name digits parts none wrong s w =
-    let same = same_parts w.name name w.digits digits (sym w.parts ∙ parts) (no_equals w.digits w.sets.value.hex) none in
-    wrong s (subst (λ n. Sets ports n digits s) same.0 (subst (λ d. Sets ports w.name d s) same.1 w.sets))
-
--- how often settings set a port
-abbrev pub set_count : ℕ → List Setting → ℕ
-set_count port settings = count_by (λ s. s.port == port) settings
-
-count_push : (port : ℕ) (settings : List Setting) (s : Setting) (more : List Setting) → set_count port (settings ++ s ∷ more) ≡ set_count port settings + cond {A = ℕ} (s.port == port) 1 0 + set_count port more
-count_push port settings s more =
-    let both = sum_by-append (λ (s : Setting). cond {A = ℕ} (s.port == port) 1 0) settings (s ∷ more) in
-    let first = sum_by-cons (λ (s : Setting). cond {A = ℕ} (s.port == port) 1 0) s more in
+count_push : (port : ℕ) (settings : List Setting) (s : Setting) → times_set port (settings ++ s ∷ []) ≡ times_set port settings + cond {A = ℕ} (s.port == port) 1 0
+count_push port settings s =
+    let both = sum_by-append (λ (s : Setting). cond {A = ℕ} (s.port == port) 1 0) settings (s ∷ []) in
+    let first = sum_by-cons (λ (s : Setting). cond {A = ℕ} (s.port == port) 1 0) s [] in
     omega (arith, both, first)
 
 counted : (port : ℕ) (s : Setting) → s.port ≡ port → cond {A = ℕ} (s.port == port) 1 0 ≡ 1
@@ -70,19 +42,18 @@ uncounted : (port : ℕ) (s : Setting) → (s.port ≡ port → ⊥) → cond {A
 uncounted port s differs = cond-false (s.port == port) 1 0 (ne_eqb s.port port differs)
 
 -- the words so far, of the line of this number, set ports, and the last lines of the ports tell which
-pub record Setting-up (ports : List Port) (all rest : List (List ℕ)) (last_lines : List ℕ) (line : ℕ) (values : List PortBit) : Type 0 where
+pub record Setting-up (ports : List Port) (group : Group) (all rest : List (List ℕ)) (last_lines : List ℕ) (line : ℕ) (values : List PortBit) : Type 0 where
   pub done : List (List ℕ)
   pub settings : List Setting
   pub split : all ≡ done ++ rest
-  pub set : AllZip (WordSets ports) done settings
+  pub set : AllZip (WordSets ports group) done settings
   pub once : EachOnce settings
   pub bits : values ≡ bits_set settings
-  pub set_here : (port : ℕ) → get_or last_lines port 0 ≡ line → 0 < set_count port settings
-  pub not_set : (port : ℕ) → (get_or last_lines port 0 ≡ line → ⊥) → set_count port settings ≡ 0
-  pub earlier : AreEarlier ports last_lines (line + 1)
+  pub set_here : (port : ℕ) → get_or last_lines port 0 ≡ line → 0 < times_set port settings
+  pub not_set : (port : ℕ) → (get_or last_lines port 0 ≡ line → ⊥) → times_set port settings ≡ 0
 
-pub nothing_set : (ports : List Port) (all : List (List ℕ)) (last_lines : List ℕ) (line : ℕ) → AreEarlier ports last_lines line → Setting-up ports all all last_lines line []
-nothing_set ports all last_lines line before = record {
+pub nothing_set : (ports : List Port) (group : Group) (all : List (List ℕ)) (last_lines : List ℕ) (line : ℕ) → AreEarlier ports last_lines line → Setting-up ports group all all last_lines line []
+nothing_set ports group all last_lines line before = record {
   done = [];
   settings = [];
   split = refl;
@@ -91,53 +62,76 @@ nothing_set ports all last_lines line before = record {
   bits = refl;
   set_here = λ port here. absurd (omega (arith, before.earlier port));
   not_set = λ port differs. refl;
-  earlier = record { size = before.size; earlier = λ port. omega (arith, before.earlier port) };
 }
 
-module _ (ports : List Port) (all rest : List (List ℕ)) (word : List ℕ) (last_lines : List ℕ) (line : ℕ) (values : List PortBit) (u : Setting-up ports all (word ∷ rest) last_lines line values) where
-  -- a word that sets no port is among no words that give values
-  pub word_wrong : ((s : Setting) → WordSets ports word s → ⊥) → (others : List PortBit) → WordsGive ports all others → ⊥
-  word_wrong none others gives =
-      let partner = zip_partner (WordSets ports) u.done word rest gives.settings (subst (λ ws. AllZip (WordSets ports) ws gives.settings) u.split gives.set) in
-      none partner.0 partner.1
+-- the numbers of the last lines stay below that of the next
+pub still_earlier : (ports : List Port) (last_lines : List ℕ) (line : ℕ) → AreEarlier ports last_lines line → AreEarlier ports last_lines (line + 1)
+still_earlier ports last_lines line before = record { size = before.size; earlier = λ port. omega (arith, before.earlier port) }
 
-  -- neither is one that sets a port again
-  pub word_again : (s : Setting) → WordSets ports word s → get_or last_lines s.port 0 ≡ line → (others : List PortBit) → WordsGive ports all others → ⊥
-  word_again s here same_line others gives =
-      let front = zip_front (WordSets ports) (one_word ports) u.done word rest u.settings s gives.settings u.set here (subst (λ ws. AllZip (WordSets ports) ws gives.settings) u.split gives.set) in
-      let count : set_count s.port gives.settings ≡ set_count s.port u.settings + cond {A = ℕ} (s.port == s.port) 1 0 + set_count s.port front.0 = ap (set_count s.port) front.1 ∙ count_push s.port u.settings s front.0 in
-      let own = counted s.port s refl in
-      let before = u.set_here s.port same_line in
-      let once = gives.once s.port in
-      omega arith
+pub set_earlier : (ports : List Port) (last_lines next : List ℕ) (line port : ℕ) → AreEarlier ports last_lines (line + 1) → port < length last_lines → next ≡ set last_lines port line → AreEarlier ports next (line + 1)
+set_earlier ports last_lines next line port before inside written = record {
+  size = ap length written ∙ length-set last_lines port line ∙ before.size;
+  earlier = λ other. elim (cases_eq port other) [
+    | inl same ↦
+        (let last : get_or next other 0 ≡ line = ap (λ p. get_or next p 0) (sym same) ∙ ap (λ lasts. get_or lasts port 0) written ∙ get_or-set_same last_lines port line 0 inside in omega arith)
+    | inr differs ↦
+        (let there : get_or next other 0 ≡ get_or last_lines other 0 = ap (λ lasts. get_or lasts other 0) written ∙ get_or-set_other last_lines port other line 0 (λ e. differs (sym e)) in
+        let less = before.earlier other in omega arith)
+  ];
+}
 
-  -- one that sets another port is taken
-  pub word_taken : (s : Setting) (next : List ℕ) (new : List PortBit) → WordSets ports word s → (get_or last_lines s.port 0 ≡ line → ⊥) → s.port < length last_lines → next ≡ set last_lines s.port line → new ≡ values ++ shown_bits s.nets s.number → Setting-up ports all rest next line new
+module _ (ports : List Port) (group : Group) (all rest : List (List ℕ)) (word : List ℕ) (last_lines : List ℕ) (line : ℕ) (values : List PortBit)
+    (u : Setting-up ports group all (word ∷ rest) last_lines line values) where
+  stopped : (name digits : List ℕ) → IsParted word name digits → Stops ports group all u.settings name digits
+  stopped name digits parted = record { done = u.done; word = word; rest = rest; are = u.split; set = record { each = u.set; once = u.once }; parted = parted }
+
+  -- the fault of a word is that of the words
+  pub words_fail : (f : EventFault) → WordFails ports group last_lines line word f → WordsAnswer ports group line all (Err f)
+  words_fail (BadLine at) h = h
+  words_fail (NoGroup at) h = h
+  words_fail (NoPort at) (same, h) = (same, record { before = u.settings; name = h.name; digits = h.digits; stops = stopped h.name h.digits h.parted; none = h.none })
+  words_fail (PortTwice at) (same, h) = (
+    same,
+    record { before = u.settings; name = h.name; digits = h.digits; stops = stopped h.name h.digits h.parted; port = h.port; is_port = h.is_port; again = u.set_here h.port h.here },
+  )
+  words_fail (BadValue at) (same, h) = (
+    same,
+    record {
+      before = u.settings;
+      name = h.name;
+      digits = h.digits;
+      stops = stopped h.name h.digits h.parted;
+      port = h.port;
+      is_port = h.is_port;
+      first = u.not_set h.port h.first;
+      wrong = h.wrong;
+    },
+  )
+  words_fail NoMemory h = absurd h
+
+  -- a word that sets a port is taken
+  pub word_taken : (s : Setting) (next : List ℕ) (new : List PortBit) → WordSets ports group word s → (get_or last_lines s.port 0 ≡ line → ⊥) → s.port < length last_lines → next ≡ set last_lines s.port line → new ≡ values ++ shown_bits s.nets s.number
+      → Setting-up ports group all rest next line new
   word_taken s next new here differs inside written added = record {
     done = u.done ++ word ∷ [];
     settings = u.settings ++ s ∷ [];
     split = u.split ∙ sym (append_assoc u.done (word ∷ []) rest);
-    set = zip_push (WordSets ports) u.done u.settings word s u.set here;
+    set = zip_push (WordSets ports group) u.done u.settings word s u.set here;
     once = λ port. elim (cases_eq s.port port) [
-      | inl same ↦ (let one = counted port s same in let none = u.not_set s.port differs in let other : set_count port u.settings ≡ 0 = subst (λ p. set_count p u.settings ≡ 0) same none in omega (arith, count_push port u.settings s []))
-      | inr other ↦ (let none = uncounted port s other in let before = u.once port in omega (arith, count_push port u.settings s []))
+      | inl same ↦
+          (let one = counted port s same in let none = u.not_set s.port differs in
+          let other : times_set port u.settings ≡ 0 = subst (λ p. times_set p u.settings ≡ 0) same none in omega (arith, count_push port u.settings s))
+      | inr other ↦ (let none = uncounted port s other in let before = u.once port in omega (arith, count_push port u.settings s))
     ];
     bits = added ∙ ap (λ bits. bits ++ shown_bits s.nets s.number) u.bits ∙ sym (bits_push u.settings s);
     set_here = λ port same_line. elim (cases_eq s.port port) [
-      | inl same ↦ (let one = counted port s same in omega (arith, count_push port u.settings s []))
-      | inr other ↦ (let before = u.set_here port (sym (kept port other) ∙ same_line) in omega (arith, count_push port u.settings s []))
+      | inl same ↦ (let one = counted port s same in omega (arith, count_push port u.settings s))
+      | inr other ↦ (let before = u.set_here port (sym (kept port other) ∙ same_line) in omega (arith, count_push port u.settings s))
     ];
     not_set = λ port none. elim (cases_eq s.port port) [
       | inl same ↦ absurd (none (ap (λ p. get_or next p 0) (sym same) ∙ own))
-      | inr other ↦ (let zero_is = uncounted port s other in let before = u.not_set port (λ same_line. none (kept port other ∙ same_line)) in omega (arith, count_push port u.settings s []))
+      | inr other ↦ (let zero_is = uncounted port s other in let before = u.not_set port (λ same_line. none (kept port other ∙ same_line)) in omega (arith, count_push port u.settings s))
     ];
-    earlier = record {
-      size = ap length written ∙ length-set last_lines s.port line ∙ u.earlier.size;
-      earlier = λ port. elim (cases_eq s.port port) [
-        | inl same ↦ (let last : get_or next port 0 ≡ line = ap (λ p. get_or next p 0) (sym same) ∙ own in omega arith)
-        | inr other ↦ (let there = kept port other in let before = u.earlier.earlier port in omega arith)
-      ];
-    };
   }
     where
       own : get_or next s.port 0 ≡ line
@@ -146,31 +140,73 @@ module _ (ports : List Port) (all rest : List (List ℕ)) (word : List ℕ) (las
       kept : (port : ℕ) → (s.port ≡ port → ⊥) → get_or next port 0 ≡ get_or last_lines port 0
       kept port other = ap (λ lasts. get_or lasts port 0) written ∙ get_or-set_other last_lines s.port port line 0 (λ e. other (sym e))
 
-of_words : (ports : List Port) (given : List (List ℕ)) (settings : List Setting) → AllZip (WordSets ports) given settings → AllByRecursion (IsOfPort ports) settings
-of_words ports [] [] set = tt
-of_words ports [] (s ∷ ss) set = absurd set
-of_words ports (w ∷ ws) [] set = absurd set
-of_words ports (w ∷ ws) (s ∷ ss) set = (set.0.sets.nets, of_words ports ws ss set.1)
+-- all words are taken
+pub words_taken : (ports : List Port) (group : Group) (all : List (List ℕ)) (last_lines : List ℕ) (line : ℕ) (values : List PortBit) → Setting-up ports group all [] last_lines line values → WordsGive ports group all values
+words_taken ports group all last_lines line values u = record {
+  settings = u.settings;
+  set = record { each = subst (λ ws. AllZip (WordSets ports group) ws u.settings) (sym (u.split ∙ append-nil u.done)) u.set; once = u.once };
+  bits = u.bits;
+}
 
--- words that give values set ports
-pub words_set : (ports : List Port) (given : List (List ℕ)) (values : List PortBit) → WordsGive ports given values → AreSet ports values
-words_set ports given values gives = record { settings = gives.settings; of_ports = of_words ports given gives.settings gives.set; once = gives.once; bits = gives.bits }
+-- ## A line
 
--- a line whose words are these tells events of the values that they give
-module _ (ports : List Port) (line group : List ℕ) (rest : List (List ℕ)) (are_words : words line ≡ group ∷ rest) where
-  same_words : (event : Event) (t : TellsEvent ports line event) → group ∷ rest ≡ codes "*" ∷ t.further
-  same_words event t = sym are_words ∙ t.are_words
+module _ (v : InputGroups) (ports : List Port) (number : ℕ) (line : List ℕ) (group : Group) (place : ℕ) (further : List (List ℕ)) (of_group : IsOfGroup v line place group further) where
+  pub line_tells : (event : Event) → event.group.place ≡ place → WordsGive ports group further event.values → TellsEvent v ports line event
+  line_tells event same gives = record {
+    group = group;
+    further = further;
+    of_group = subst (λ k. IsOfGroup v line k group further) (sym same) of_group;
+    settings = gives.settings;
+    set = gives.set;
+    bits = gives.bits;
+  }
 
-  pub words_told : (event : Event) → TellsEvent ports line event → WordsGive ports rest event.values
-  words_told event t =
-      let same = same_words event t in
-      let rests : rest ≡ t.further = cc in
-      subst (λ ws. WordsGive ports ws event.values) (sym rests) t.gives
+  has_word : (before : List Setting) (name digits : List ℕ) → Stops ports group further before name digits → HasWord v ports line group before name digits
+  has_word before name digits s = record {
+    place = place;
+    done = s.done;
+    word = s.word;
+    rest = s.rest;
+    of_group = subst (IsOfGroup v line place group) s.are of_group;
+    set = s.set;
+    parted = s.parted;
+  }
 
--- what is left of a text, if there is more
-abbrev pub lines_left : Option (List ℕ) → List (List ℕ)
-lines_left None = []
-lines_left (Some text) = event_lines text
+  -- the fault of the words is that of the line
+  pub line_fails : (f : EventFault) → WordsAnswer ports group number further (Err f) → LineAnswers v ports number line (Err f)
+  line_fails (BadLine at) h = absurd h
+  line_fails (NoGroup at) h = absurd h
+  line_fails (NoPort at) (same, h) = (same, record { group = group; before = h.before; name = h.name; digits = h.digits; here = has_word h.before h.name h.digits h.stops; none = h.none })
+  line_fails (PortTwice at) (same, h) = (
+    same,
+    record { group = group; before = h.before; name = h.name; digits = h.digits; here = has_word h.before h.name h.digits h.stops; port = h.port; is_port = h.is_port; again = h.again },
+  )
+  line_fails (BadValue at) (same, h) = (
+    same,
+    record {
+      group = group;
+      before = h.before;
+      name = h.name;
+      digits = h.digits;
+      here = has_word h.before h.name h.digits h.stops;
+      port = h.port;
+      is_port = h.is_port;
+      first = h.first;
+      wrong = h.wrong;
+    },
+  )
+  line_fails NoMemory h = tt
+
+-- ## Lines
+
+-- the lines that tell events, where the first has this number
+abbrev pub lines_from : ℕ → List ℕ → List (ℕ × List ℕ)
+lines_from number text = filter (λ (n, line). not (is_passed_over line)) (enumerate_from number (lines text))
+
+-- what is left of a text behind the line of this number, if there is more
+abbrev pub lines_left : ℕ → Option (List ℕ) → List (ℕ × List ℕ)
+lines_left number None = []
+lines_left number (Some text) = lines_from (number + 1) text
 
 abbrev pub bytes_left : Option (List ℕ) → ℕ
 bytes_left None = 0
@@ -180,59 +216,78 @@ bytes_left (Some text) = 1 + length text
 abbrev pub IsCut : List ℕ → List ℕ → Option (List ℕ) → Type 0
 IsCut text line after = MatchOption after (lines text ≡ line ∷ []) (λ rest. lines text ≡ line ∷ lines rest)
 
-pub line_passed : (text line : List ℕ) (after : Option (List ℕ)) → IsCut text line after → is_passed_over line ≡ true → event_lines text ≡ lines_left after
-line_passed text line None cut passed = ap (filter (λ line. not (is_passed_over line))) cut ∙ cond-false (not (is_passed_over line)) _ _ (ap not passed)
-line_passed text line (Some rest) cut passed = ap (filter (λ line. not (is_passed_over line))) cut ∙ cond-false (not (is_passed_over line)) _ _ (ap not passed)
+pub line_passed : (number : ℕ) (text line : List ℕ) (after : Option (List ℕ)) → IsCut text line after → is_passed_over line ≡ true → lines_from number text ≡ lines_left number after
+line_passed number text line None cut passed =
+    ap (λ ls. filter (λ (n, line). not (is_passed_over line)) (enumerate_from number ls)) cut ∙ cond-false (not (is_passed_over line)) _ _ (ap not passed)
+line_passed number text line (Some rest) cut passed =
+    ap (λ ls. filter (λ (n, line). not (is_passed_over line)) (enumerate_from number ls)) cut ∙ cond-false (not (is_passed_over line)) _ _ (ap not passed)
 
-pub line_kept : (text line : List ℕ) (after : Option (List ℕ)) → IsCut text line after → is_passed_over line ≡ false → event_lines text ≡ line ∷ lines_left after
-line_kept text line None cut kept = ap (filter (λ line. not (is_passed_over line))) cut ∙ cond-true (not (is_passed_over line)) _ _ (ap not kept)
-line_kept text line (Some rest) cut kept = ap (filter (λ line. not (is_passed_over line))) cut ∙ cond-true (not (is_passed_over line)) _ _ (ap not kept)
+pub line_kept : (number : ℕ) (text line : List ℕ) (after : Option (List ℕ)) → IsCut text line after → is_passed_over line ≡ false → lines_from number text ≡ (number, line) ∷ lines_left number after
+line_kept number text line None cut kept =
+    ap (λ ls. filter (λ (n, line). not (is_passed_over line)) (enumerate_from number ls)) cut ∙ cond-true (not (is_passed_over line)) _ _ (ap not kept)
+line_kept number text line (Some rest) cut kept =
+    ap (λ ls. filter (λ (n, line). not (is_passed_over line)) (enumerate_from number ls)) cut ∙ cond-true (not (is_passed_over line)) _ _ (ap not kept)
 
 -- the lines so far tell events
-pub record Telling (ports : List Port) (all rest : List (List ℕ)) (events : List Event) : Type 0 where
-  pub done : List (List ℕ)
+pub record Telling (v : InputGroups) (ports : List Port) (all rest : List (ℕ × List ℕ)) (events : List Event) : Type 0 where
+  pub done : List (ℕ × List ℕ)
   pub split : all ≡ done ++ rest
-  pub told : AllZip (TellsEvent ports) done events
+  pub told : LinesTell v ports done events
 
-pub event_told : (ports : List Port) (all rest : List (List ℕ)) (line : List ℕ) (events : List Event) (event : Event) → Telling ports all (line ∷ rest) events → TellsEvent ports line event → Telling ports all rest (events ++ event ∷ [])
-event_told ports all rest line events event t here = record {
-  done = t.done ++ line ∷ [];
-  split = t.split ∙ sym (append_assoc t.done (line ∷ []) rest);
-  told = zip_push (TellsEvent ports) t.done events line event t.told here;
-}
+module _ (v : InputGroups) (ports : List Port) where
+  pub event_told : (all rest : List (ℕ × List ℕ)) (number : ℕ) (line : List ℕ) (events : List Event) (event : Event)
+      → Telling v ports all ((number, line) ∷ rest) events → TellsEvent v ports line event → Telling v ports all rest (events ++ event ∷ [])
+  event_told all rest number line events event t here = record {
+    done = t.done ++ (number, line) ∷ [];
+    split = t.split ∙ sym (append_assoc t.done ((number, line) ∷ []) rest);
+    told = zip_push (λ (numbered : ℕ × List ℕ). TellsEvent v ports numbered.1) t.done events (number, line) event t.told here;
+  }
 
-pub line_wrong : (ports : List Port) (all rest : List (List ℕ)) (line : List ℕ) (events : List Event) → Telling ports all (line ∷ rest) events → (others : List Event) → AllZip (TellsEvent ports) all others → (event : Event) × TellsEvent ports line event
-line_wrong ports all rest line events t others says =
-    zip_partner (TellsEvent ports) t.done line rest others (subst (λ ls. AllZip (TellsEvent ports) ls others) t.split says)
+  has_fault : (text : List ℕ) (rest : List (ℕ × List ℕ)) (number : ℕ) (line : List ℕ) (events : List Event) (f : EventFault)
+      → Telling v ports (event_lines text) ((number, line) ∷ rest) events → LineHas v ports number line f → HasEventFault v ports text f
+  has_fault text rest number line events f t h = record { before = t.done; number = number; line = line; behind = rest; are = t.split; events = events; told = t.told; has = h }
 
--- the values of each event set ports
-pub events_set : (ports : List Port) (given : List (List ℕ)) (events : List Event) → AllZip (TellsEvent ports) given events → All (λ event. AreSet ports event.values) events
-events_set ports [] [] told = All-nil (λ (event : Event). AreSet ports event.values)
-events_set ports [] (e ∷ es) told = absurd told
-events_set ports (l ∷ ls) [] told = absurd told
-events_set ports (l ∷ ls) (e ∷ es) told =
-    All-cons (λ (event : Event). AreSet ports event.values) e es (words_set ports told.0.further e.values told.0.gives) (events_set ports ls es told.1)
+  -- the fault of a line is that of the text
+  pub text_fails : (text : List ℕ) (rest : List (ℕ × List ℕ)) (number : ℕ) (line : List ℕ) (events : List Event) (f : EventFault)
+      → Telling v ports (event_lines text) ((number, line) ∷ rest) events → LineAnswers v ports number line (Err f) → EventAnswers v ports text (Err f)
+  text_fails text rest number line events (BadLine at) t h = has_fault text rest number line events (BadLine at) t h
+  text_fails text rest number line events (NoGroup at) t h = has_fault text rest number line events (NoGroup at) t h
+  text_fails text rest number line events (NoPort at) t h = has_fault text rest number line events (NoPort at) t h
+  text_fails text rest number line events (PortTwice at) t h = has_fault text rest number line events (PortTwice at) t h
+  text_fails text rest number line events (BadValue at) t h = has_fault text rest number line events (BadValue at) t h
+  text_fails text rest number line events NoMemory t h = tt
 
--- a text tells at most one list of events
-one_event : (ports : List Port) (line : List ℕ) (one other : Event) → TellsEvent ports line one → TellsEvent ports line other → one ≡ other
-one_event ports line one other a b =
-    let furthers : codes "*" ∷ a.further ≡ codes "*" ∷ b.further = sym a.are_words ∙ b.are_words in
-    let further : a.further ≡ b.further = cc in
-    let settings = zip_unique (WordSets ports) (one_word ports) b.further a.gives.settings b.gives.settings (subst (λ ws. AllZip (WordSets ports) ws a.gives.settings) further a.gives.set) b.gives.set in
-    let values : one.values ≡ other.values = a.gives.bits ∙ ap bits_set settings ∙ sym b.gives.bits in
-    let place : one.group.place ≡ other.group.place = a.group ∙ sym b.group in
-    λ i. record { group = record { place = place i }; values = values i }
-
-pub events_apart : TextsTellEventsApart
-events_apart ports text one other a b = zip_unique (TellsEvent ports) (one_event ports) (event_lines text) one other a b
+  -- all lines tell events
+  pub text_told : (text : List ℕ) (events : List Event) → Telling v ports (event_lines text) [] events → SaysEvents v ports text events
+  text_told text events t = subst (λ ls. LinesTell v ports ls events) (sym (t.split ∙ append-nil t.done)) t.told
 
 pub less_left : (text : List ℕ) (after : Option (List ℕ)) → MatchOption after (length text ≡ length text) (λ rest. length rest < length text) → bytes_left after ≤ length text
 less_left text None less = omega arith
 less_left text (Some rest) less = omega arith
 
+-- ## The bits of inputs
+
+of_words : (ports : List Port) (group : Group) (given : List (List ℕ)) (settings : List Setting) → AllZip (WordSets ports group) given settings → AllByRecursion (IsOfPort ports) settings
+of_words ports group [] [] set = tt
+of_words ports group [] (s ∷ ss) set = absurd set
+of_words ports group (w ∷ ws) [] set = absurd set
+of_words ports group (w ∷ ws) (s ∷ ss) set = (set.0.sets.nets, of_words ports group ws ss set.1)
+
+-- the values of each event set ports
+events_set : (v : InputGroups) (ports : List Port) (given : List (ℕ × List ℕ)) (events : List Event) → LinesTell v ports given events → All (λ event. AreSet ports event.values) events
+events_set v ports [] [] told = All-nil (λ (event : Event). AreSet ports event.values)
+events_set v ports [] (e ∷ es) told = absurd told
+events_set v ports (l ∷ ls) [] told = absurd told
+events_set v ports (l ∷ ls) (e ∷ es) told =
+    let t = told.0 in
+    All-cons (λ (event : Event). AreSet ports event.values) e es
+    (record { settings = t.settings; of_ports = of_words ports t.group t.further t.settings t.set.each; once = t.set.once; bits = t.bits })
+    (events_set v ports ls es told.1)
+
 -- the events that a text tells give values of input bits
-pub bits_told : (p : Parts) (inner : List Port) (text : List ℕ) (r : Result (List Event) TextFault) → IsDesign p → inner ≡ p.inputs → Answers (SaysEvents inner text) r → IfOk r (λ events. (event : Event) → Contains events event → AreInputBits p event.values)
-bits_told p inner text (Ok events) design same says = λ event here.
-    let set = All-contains (λ (event : Event). AreSet inner event.values) events event (events_set inner (event_lines text) events says) here in
+pub bits_told : (p : Parts) (v : InputGroups) (inner : List Port) (text : List ℕ) (r : Result (List Event) EventFault) → IsDesign p → inner ≡ p.inputs → EventAnswers v inner text r
+    → IfOk r (λ events. (event : Event) → Contains events event → AreInputBits p event.values)
+bits_told p v inner text (Ok events) design same says = λ event here.
+    let set = All-contains (λ (event : Event). AreSet inner event.values) events event (events_set v inner (event_lines text) events says) here in
     input_bits p event.values design (subst (λ ps. AreSet ps event.values) same set)
-bits_told p inner text (Err fault) design same says = tt
+bits_told p v inner text (Err fault) design same says = tt

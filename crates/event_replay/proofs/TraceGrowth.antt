@@ -12,8 +12,8 @@ use Rattle.emu_io.specs.declared.files.StoreFault.TheVariants as store
 use Rattle.emu_io.specs.Faults.{Rose}
 use Rattle.emu_io.specs.Sink.{AppendsWhereTold, PutMeans}
 use Rattle.settled_model.specs.Runs.{last_of}
-use Rattle.event_replay.specs.Runs.{BreaksOff, Leaves, Shows}
-use Rattle.event_replay.specs.Traces.{trace_line_of, trace_of}
+use Rattle.domain_groups.specs.Traces.{BreaksOff, trace_line_of, trace_of}
+use Rattle.event_replay.specs.Runs.{Leaves, Shows}
 
 enumerate_more : {X : Type 0} (n : ℕ) (xs : List X) (x : X) → enumerate_from n (xs ++ x ∷ []) ≡ enumerate_from n xs ++ (n + length xs, x) ∷ []
 enumerate_more n [] x = let same : n ≡ n + 0 = omega arith in ap (λ k. (k, x) ∷ []) same

@@ -1,9 +1,8 @@
+pub mod Checks
 pub mod Events
-pub mod Faults
-pub mod Index
-pub mod Lines
-pub mod Openings
+pub mod Given
+pub mod Opened
+pub mod PathIndex
 pub mod Runs
 pub mod Settings
-pub mod Traces
 pub mod Values

@@ -1,48 +1,20 @@
--- The traces of the original and of the machine, and what stands where a line of one could not be put.
+-- How far a run has gone, and what stands in the sink where a line of its trace could not be put.
 -- The rule is told in docs/FORMATS.md, "Traces".
-use Rattle.std.specs.Prelude.{◌≡◌, ◌≤◌, ◌+◌, ℕ, Bool, List, [], ◌∷◌, ◌++◌, map, take, length, Option, Result, Ok, Err}
+use Rattle.std.specs.Prelude.{◌≡◌, ◌≤◌, ℕ, List, map, take, length, Option, Result, Ok, Err}
 use Rattle.id_arena.specs.declared.wire.Wire.{Wire}
 use Rattle.design_core.specs.declared.parts.Parts.{Parts}
-use Rattle.design_core.specs.declared.parts.Port.{Port}
 use Rattle.design_core.specs.declared.values.Event.{Event}
-use Rattle.design_core.specs.Design.{port_bits}
 use Rattle.design_core.specs.Event.{Follow}
-use Rattle.design_core.specs.Valuation.{Valuation, values}
+use Rattle.design_core.specs.Valuation.{Valuation}
 use Rattle.emu_io.specs.declared.files.StoreFault.{StoreFault}
 use Rattle.emu_io.specs.declared.files.StoreFault.TheVariants as store
 use Rattle.emu_io.specs.Faults.{Rose}
 use Rattle.emu_io.specs.Sink.{AppendsWhereTold}
-use Rattle.emu_machine.specs.declared.results.Results.{Results}
+use Rattle.emu_machine.specs.Results.{Results}
 use Rattle.emu_machine.specs.Headline.{event_values}
-use Rattle.emu_machine.specs.State.{State, net_value, run_of}
+use Rattle.emu_machine.specs.State.{State, run_of}
 use Rattle.settled_model.specs.Runs.{last_of}
-use Rattle.event_replay.specs.Traces.{trace_line_of, trace_of}
-
--- what a valuation shows at the output bits of a design
-abbrev pub outputs_of : Parts → Valuation → List Bool
-outputs_of p v = values v (port_bits p.outputs)
-
--- what a state of the machine shows at the nets that the map names for the output bits
-abbrev pub spots_of : Results → State → List Bool
-spots_of r x = map (λ spot. net_value r.net x spot.chip.place spot.net.place) r.map.outputs
-
--- the trace of the original: what the valuations after the events show
-abbrev pub settled_trace : Parts → List Valuation → List ℕ
-settled_trace p vs = trace_of p.outputs (map (outputs_of p) vs)
-
--- the trace of the machine: what its states after the events show
-abbrev pub machine_trace : Parts → Results → List State → List ℕ
-machine_trace p r xs = trace_of p.outputs (map (spots_of r) xs)
-
--- A trace that breaks off in its last line: the lines before it are written whole, and some first bytes
--- of it may follow.
-pub record BreaksOff (outputs : List Port) (shown : List (List Bool)) (old new : Option (List ℕ)) : Type 0 where
-  pub before : List (List Bool)
-  pub last : List Bool
-  pub are : shown ≡ before ++ last ∷ []
-  pub count : ℕ
-  pub some : count ≤ length (trace_line_of (length before + 1) outputs last)
-  pub text : AppendsWhereTold old (trace_of outputs before ++ take count (trace_line_of (length before + 1) outputs last)) new
+use Rattle.domain_groups.specs.Traces.{BreaksOff, machine_trace, outputs_of, settled_trace, spots_of}
 
 -- a failure shows in the sink's count; want of memory shows nowhere
 abbrev pub Shows : StoreFault → ℕ → ℕ → Type 0

@@ -1,8 +1,8 @@
 //! The lines of a text, and the words of a line.
 
-ghost use Rattle.std.specs.Prelude.{◌≡◌, ◌<◌, ◌==◌, ◌∷◌, ◌++◌, ◌↔◌, [], false, get_or, length, option_copied, IsTrue, MatchOption};
-ghost use Rattle.std.specs.List.{list_all, list_any};
-ghost use Rattle.event_replay.specs.Lines.{is_blank, is_newline, is_passed_over, is_plain, is_return, lines, without_returns, words};
+ghost use Rattle.std.specs.Prelude.{◌≡◌, ◌<◌, ◌==◌, ◌∷◌, ◌++◌, ◌↔◌, [], false, true, get_or, length, option_copied, IsTrue, MatchOption};
+ghost use Rattle.std.specs.List.{list_all};
+ghost use Rattle.domain_groups.specs.Lines.{IsParted, has_equals, is_blank, is_newline, is_passed_over, is_plain, is_return, lines, without_returns, words};
 
 /// The first line of a text, and what stands after it if there is a newline.
 pub(crate) fn cut_line(text: &[u8]) -> (&[u8], Option<&[u8]>)
@@ -54,7 +54,7 @@ pub(crate) fn is_plain(line: &[u8]) -> bool
 /// The first word of a line, and what stands after it; None exactly where there is no word.
 pub(crate) fn cut_word(line: &[u8]) -> Option<(&[u8], &[u8])>
     ensures words { MatchOption result
-        (words line.now ≡ [])
+        ((words line.now ≡ []) × (list_all is_blank line.now ≡ true))
         (λ cut. words line.now ≡ cut.0.now ∷ words cut.1.now) }
     ensures less { MatchOption result
         (length line.now ≡ length line.now)
@@ -82,12 +82,18 @@ fn take_word(line: &[u8]) -> (&[u8], &[u8])
 /// A word's parts before and after its last `=`; None exactly where there is none.
 pub(crate) fn part_word(word: &[u8]) -> Option<(&[u8], &[u8])>
     ensures { MatchOption result
-        (list_any (λ byte. byte == 61) word.now ≡ false)
-        (λ parts. (word.now ≡ parts.0.now ++ 61 ∷ parts.1.now)
-        × (list_any (λ byte. byte == 61) parts.1.now ≡ false)) }
+        (has_equals word.now ≡ false)
+        (λ parts. IsParted word.now parts.0.now parts.1.now) }
 {
     match word.iter().rposition(|byte| *byte == b'=') {
         Some(place) => Some((&word[..place], &word[place + 1..])),
         None => None,
     }
+}
+
+/// Whether a word holds `=`.
+pub(crate) fn has_equals(word: &[u8]) -> bool
+    ensures { result ≡ has_equals word.now }
+{
+    word.iter().any(|byte| *byte == b'=')
 }

@@ -3,7 +3,7 @@
 ghost use Rattle.std.specs.Prelude.{◌≡◌, ◌≤◌, length};
 ghost use Rattle.design_core.specs.Design.{port_bits};
 ghost use Rattle.emu_io.specs.Sink.{PutMeans};
-ghost use Rattle.event_replay.specs.Traces.{trace_line_of};
+ghost use Rattle.domain_groups.specs.Traces.{trace_line_of};
 
 use crate::trace::trace_line;
 use design_core::Port;

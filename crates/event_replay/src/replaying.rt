@@ -8,9 +8,9 @@ ghost use Rattle.emu_machine.specs.declared.map.Spot.{Spot};
 ghost use Rattle.emu_machine.specs.Netlist.{chip_at};
 ghost use Rattle.emu_machine.specs.State.{after_frame, net_value};
 ghost use Rattle.cycle_sim.specs.Tables.{state};
-ghost use Rattle.event_replay.specs.Runs.{ReplayMeans, spots_of};
+ghost use Rattle.domain_groups.specs.Traces.{spots_of, trace_line_of};
+ghost use Rattle.event_replay.specs.Runs.{ReplayMeans};
 ghost use Rattle.event_replay.specs.Settings.{AreInputBits};
-ghost use Rattle.event_replay.specs.Traces.{trace_line_of};
 
 use crate::putting::put_line;
 use cycle_sim::Machine;
@@ -85,7 +85,7 @@ fn replay_line<O: Sink>(
     ensures later { O.faults out.old ≤ O.faults out.new }
 {
     machine.frame(event.group, &event.values);
-    let bits = bits_at(alloc, machine, results.map.outputs.as_slice())?;
+    let bits = bits_at(alloc, machine, results.map().outputs.as_slice())?;
     put_line(alloc, number, outputs, bits.as_slice(), out)
 }
 

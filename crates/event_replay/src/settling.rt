@@ -6,9 +6,9 @@ ghost use Rattle.design_core.specs.Design.{port_bits};
 ghost use Rattle.design_core.specs.Event.{IsAfter};
 ghost use Rattle.design_core.specs.Faults.{are_there};
 ghost use Rattle.emu_io.specs.Sink.{PutMeans};
-ghost use Rattle.event_replay.specs.Runs.{SettleMeans, outputs_of};
+ghost use Rattle.domain_groups.specs.Traces.{outputs_of, trace_line_of};
+ghost use Rattle.event_replay.specs.Runs.{SettleMeans};
 ghost use Rattle.event_replay.specs.Settings.{AreInputBits};
-ghost use Rattle.event_replay.specs.Traces.{trace_line_of};
 ghost use Rattle.settled_model.specs.Held.{valuation};
 
 use crate::putting::put_line;

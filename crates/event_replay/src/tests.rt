@@ -1,13 +1,11 @@
-//! Texts of openings and events on one design, and lines of traces.
+//! Texts of events on one design, and lines of traces.
 
 ghost use Rattle.std.specs.Prelude.{◌≡◌, ◌≤◌, ◌∷◌, [], IfOk, length};
 ghost use Rattle.design_core.specs.Limits.{IsCountable};
 
-use crate::{
-    TextFault, events_are_told_apart, openings_are_told_apart, read_events, read_opening,
-    trace_line,
-};
+use crate::{EventFault, read_events, trace_line};
 use design_core::{Design, NetName, Parts, Port, PortBit, Scope};
+use domain_groups::{Groups, read_groups};
 use emu_io::{List, NoMemory, Text};
 use id_arena::{Key, NetId};
 use std::alloc::Global;
@@ -107,21 +105,26 @@ fn are(values: &[PortBit], from: u32, count: usize, ones: &[u32]) -> bool {
     values.len() == count
 }
 
-/// Whether a text tells so many events, of which the last gives values as told.
+/// Two groups: `n` of the port `w`, and `s` of the ports `a` and `x=`.
+static TWO: &[u8] =
+    b"{\"groups\":[{\"name\":\"n\",\"ports\":[\"w\"]},{\"name\":\"s\",\"ports\":[\"a\",\"x=\"]}]}";
+
+/// Whether a text tells so many events, of which the last is of this group and gives values as told.
 fn tells(
     alloc: Global,
     design: &Design,
+    groups: &Groups,
     text: &[u8],
     count: u64,
-    last: (u32, usize, &[u32]),
+    last: (u32, u32, usize, &[u32]),
 ) -> bool {
-    match read_events(alloc, text, design) {
+    match read_events(alloc, text, design, groups) {
         Ok(events) => {
             events.len() == count
                 && match events.as_slice() {
                     [.., event] => {
-                        event.group.place() == 0
-                            && are(event.values.as_slice(), last.0, last.1, last.2)
+                        event.group.place() == last.0
+                            && are(event.values.as_slice(), last.1, last.2, last.3)
                     }
                     [] => true,
                 }
@@ -132,120 +135,77 @@ fn tells(
 
 #[test]
 fn reads_events(rt: HostRuntime) -> Result<(), Fail> {
-    events_are_told_apart();
     let alloc = rt.alloc();
     let design = design(alloc)?;
-    for (text, count, from, width, ones) in [
-        (b"".as_slice(), 0, 0, 0, [0, 0]),
-        (b"\n\r\n \t \n#* a=2 \xe9\n# \t".as_slice(), 0, 0, 0, [0, 0]),
-        (b"* a=1".as_slice(), 1, 2, 1, [2, 2]),
-        (b"* a=0\r\r\n".as_slice(), 1, 2, 1, [0, 0]),
-        (b"* a=1\r".as_slice(), 1, 2, 1, [2, 2]),
-        (b" \t*\t a=0001 \t\n".as_slice(), 1, 2, 1, [2, 2]),
-        (b"* x==2".as_slice(), 1, 3, 2, [4, 4]),
-        (b"* a=1 x==2".as_slice(), 1, 2, 3, [2, 4]),
+    let Ok(groups) = read_groups(alloc, TWO, &design) else {
+        return Err(Fail::new("no groups"));
+    };
+    for (text, count, group, from, width, ones) in [
+        (b"".as_slice(), 0, 0, 0, 0, [0, 0]),
         (
-            b"* w=80000000000000000000000000000001".as_slice(),
+            b"\n\r\n \t \n#* a=2 \xe9\n# \t".as_slice(),
+            0,
+            0,
+            0,
+            0,
+            [0, 0],
+        ),
+        (b"* a=0\r\r\n".as_slice(), 1, 2, 2, 1, [0, 0]),
+        (b" \t*\t a=0001 \t\r".as_slice(), 1, 2, 2, 1, [2, 2]),
+        (b"s a=1 x==2".as_slice(), 1, 1, 2, 3, [2, 4]),
+        (
+            b"n w=80000000000000000000000000000001".as_slice(),
             1,
+            0,
             5,
             128,
             [5, 132],
         ),
-        (b"* w=A".as_slice(), 1, 5, 128, [6, 8]),
-        (b"* w=00a".as_slice(), 1, 5, 128, [6, 8]),
-        (b"* a=1\n\n* a=0\n#\n* a=1\n".as_slice(), 3, 2, 1, [2, 2]),
-        (b"* a=1\n* a=1\n*".as_slice(), 3, 0, 0, [0, 0]),
-    ] {
-        assert!(rt; tells(alloc, &design, text, count, (from, width, &ones)));
-    }
-    Ok(())
-}
-
-#[test]
-fn refuses_other_lines(rt: HostRuntime) -> Result<(), Fail> {
-    let design = design(rt.alloc())?;
-    for text in [
-        "a=1",
-        "** a=1",
-        "* a",
-        "* b=1",
-        "* =1",
-        "* a=",
-        "* a=2",
-        "* a=g",
-        "* a= 1",
-        "* a=1 a=1",
-        "* x==4",
-        "* x=1",
-        "* w=100000000000000000000000000000000",
-        "* a=1\r \n",
-        "* a=1\u{7f}",
-        "* a=1 \u{e9}",
-        "* a=1\u{c}",
-        "* a=1\n* a=2\n* a=1",
-        " #",
+        (b"s a=1\n\n* w=00aA\n#\ns".as_slice(), 3, 1, 0, 0, [0, 0]),
     ] {
         assert!(rt;
-            read_events(rt.alloc(), text.as_bytes(), &design).is_err_and(|fault| fault
-                == TextFault::NotYet),
-            "at {text}"
+            tells(
+                alloc,
+                &design,
+                &groups,
+                text,
+                count,
+                (group, from, width, &ones)
+            )
         );
     }
     Ok(())
 }
 
+/// Texts with the first fault of each.
+static FAULTS: [(&str, EventFault); 14] = [
+    ("a=1", EventFault::NoGroup { line: 1 }),
+    ("x a", EventFault::BadLine { line: 1 }),
+    ("* b=1 a", EventFault::BadLine { line: 1 }),
+    ("* b=1 a=1\u{7f}", EventFault::BadLine { line: 1 }),
+    ("#\n* a=1\r \n", EventFault::BadLine { line: 2 }),
+    ("** a=1", EventFault::NoGroup { line: 1 }),
+    ("* b=1", EventFault::NoPort { line: 1 }),
+    ("\ns a=1\nn a=1", EventFault::NoPort { line: 3 }),
+    ("* x=1 a=1 a=1", EventFault::NoPort { line: 1 }),
+    ("* a=1 a=2", EventFault::PortTwice { line: 1 }),
+    ("* a=2 a=1", EventFault::BadValue { line: 1 }),
+    ("* a=", EventFault::BadValue { line: 1 }),
+    ("* x==4", EventFault::BadValue { line: 1 }),
+    (" #", EventFault::NoGroup { line: 1 }),
+];
+
 #[test]
-fn reads_openings(rt: HostRuntime) -> Result<(), Fail> {
-    openings_are_told_apart();
+fn names_the_first_fault(rt: HostRuntime) -> Result<(), Fail> {
     let design = design(rt.alloc())?;
-    for (text, from, width, ones) in [
-        ("{}", 0, 0, [0, 0]),
-        (" {\"inputs\":{},\"note\":[1]}\n", 0, 0, [0, 0]),
-        ("{\"inputs\":{\"a\":\"1\"}}", 2, 1, [2, 2]),
-        ("{\"inputs\":{\"a\":\"1\",\"a\":\"000\"}}", 2, 1, [0, 0]),
-        ("{\"inputs\":{\"x=\":\"2\"}}", 3, 2, [4, 4]),
-        (
-            "{\"inputs\":{\"w\":\"80000000000000000000000000000001\"}}",
-            5,
-            128,
-            [5, 132],
-        ),
-        (
-            "{\"inputs\":{\"w\":\"aA\"},\"inputs\":{\"x=\":\"3\"}}",
-            3,
-            2,
-            [3, 4],
-        ),
-    ] {
-        match read_opening(rt.alloc(), text.as_bytes(), &design) {
-            Ok(values) => assert!(rt; are(values.as_slice(), from, width, &ones), "at {text}"),
-            Err(_) => assert!(rt; false, "refused {text}"),
+    let Ok(groups) = read_groups(rt.alloc(), TWO, &design) else {
+        return Err(Fail::new("no groups"));
+    };
+    for (text, wanted) in FAULTS.iter() {
+        match read_events(rt.alloc(), text.as_bytes(), &design, &groups) {
+            Ok(_) => return Err(Fail::new("taken")),
+            Err(fault) => assert_eq!(rt; fault, *wanted, "at {text}"),
         }
-    }
-    Ok(())
-}
-
-#[test]
-fn refuses_other_openings(rt: HostRuntime) -> Result<(), Fail> {
-    let design = design(rt.alloc())?;
-    for text in [
-        "",
-        "[]",
-        "{\"inputs\":null}",
-        "{\"inputs\":[]}",
-        "{\"inputs\":{\"b\":\"1\"}}",
-        "{\"inputs\":{\"a\":1}}",
-        "{\"inputs\":{\"a\":\"\"}}",
-        "{\"inputs\":{\"a\":\"2\"}}",
-        "{\"inputs\":{\"a\":\" 1\"}}",
-        "{\"inputs\":{\"a\":\"1\"},\"ones\":[]}",
-        "{\"words\":[]}",
-    ] {
-        assert!(rt;
-            read_opening(rt.alloc(), text.as_bytes(), &design).is_err_and(|fault| fault
-                == TextFault::NotYet),
-            "at {text}"
-        );
     }
     Ok(())
 }

@@ -4,7 +4,7 @@ ghost use Rattle.std.specs.Prelude.{◌≡◌, ◌<◌, ◌*◌, ◌/◌, ◌%�
 ghost use Rattle.std.specs.Char.{digit_char};
 ghost use Rattle.design_core.specs.Design.{port_bits};
 ghost use Rattle.design_core.specs.Operation.{bit, number};
-ghost use Rattle.event_replay.specs.Traces.{digit_count, hex_text, port_text, ports_text, trace_line_of};
+ghost use Rattle.domain_groups.specs.Traces.{digit_count, hex_text, port_text, ports_text, trace_line_of};
 
 use design_core::Port;
 use emu_io::{List, NoMemory};

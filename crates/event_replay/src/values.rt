@@ -40,6 +40,19 @@ pub(crate) fn push_bits(
     Ok(())
 }
 
+/// The number that digits write.
+pub(crate) fn number_of(digits: &[u8]) -> u128
+    requires hex { IsTrue (list_all is_hex digits.now) }
+    requires fits { hex_number digits.now < 2 ^ 128 }
+    ensures { result ≡ hex_number digits.now }
+{
+    let mut number = 0u128;
+    'digits: for byte in digits {
+        number = number * 16 + u128::from(digit_value(*byte).unwrap_or(0));
+    }
+    number
+}
+
 /// Whether a byte is a digit, and with so many digits after it counts less than 2 to the width.
 fn digit_fits(byte: u8, after: usize, width: usize) -> bool
     ensures { IsTrue result ↔ (IsTrue (is_hex byte) × (digit_value byte * 16 ^ after < 2 ^ width)) }

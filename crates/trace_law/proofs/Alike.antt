@@ -21,12 +21,13 @@ use Rattle.emu_machine.specs.declared.map.Subject.{Subject}
 use Rattle.emu_machine.specs.declared.map.Subject.TheVariants.{Net, Up, Down, Take, Next, TakeWrite, Old, TakeRead}
 use Rattle.emu_machine.specs.declared.netlist.Chip.{Chip}
 use Rattle.emu_machine.specs.declared.place.Place.TheVariants as place
-use Rattle.emu_machine.specs.declared.results.Results.{Results}
+use Rattle.emu_machine.specs.Results.{Results}
 use Rattle.emu_machine.specs.declared.schedule.Action.{Action}
 use Rattle.emu_machine.specs.declared.schedule.Action.TheVariants.{Input, Load, Send, Write, Read}
 use Rattle.emu_machine.specs.declared.schedule.Frame.{Frame}
 use Rattle.emu_machine.specs.declared.schedule.Slot.{Slot}
-use Rattle.emu_machine.specs.Acceptance.{Case, A2, A5, Holds, action_at, case_action_fits, fails_test}
+use Rattle.emu_machine.specs.declared.rule.Rule.TheVariants.{A2, A5}
+use Rattle.emu_machine.specs.Acceptance.{Case, Holds, action_at, case_action_fits, fails_test}
 use Rattle.emu_machine.specs.Law.{IsCase}
 use Rattle.emu_machine.specs.Mapped.{IsLoaded, IsValueOf, is_kept, subject}
 use Rattle.emu_machine.specs.Netlist.{chip_at}
@@ -41,8 +42,7 @@ use Rattle.cycle_sim.specs.Standing.{ChipStands}
 use Rattle.cycle_sim.proofs.Chips.{chip_here, net_chip_low}
 use Rattle.cycle_sim.proofs.JudgedResults.{can_run}
 use Rattle.cycle_sim.proofs.Sources.{same_through, source_there}
-use Rattle.event_replay.specs.Runs.{spots_of}
-use Rattle.event_replay.specs.Traces.{trace_of}
+use Rattle.domain_groups.specs.Traces.{spots_of, trace_of}
 use Rattle.trace_law.specs.Traces.{LoadedTraceIsOne}
 
 -- registers and read ports of two machines hold the same, and each input of the design has one value outside both

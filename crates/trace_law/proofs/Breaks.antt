@@ -5,7 +5,7 @@ use Rattle.std.specs.List.{enumerate_from}
 use Rattle.std.proofs.lemmas.List.{take-append-le}
 use Rattle.design_core.specs.declared.parts.Port.{Port}
 use Rattle.emu_io.specs.Sink.{AppendsWhereTold}
-use Rattle.event_replay.specs.Traces.{trace_line_of, trace_of}
+use Rattle.domain_groups.specs.Traces.{trace_line_of, trace_of}
 use Rattle.trace_law.specs.Traces.{BrokenTraces}
 
 module _ (outputs : List Port) where

@@ -13,8 +13,7 @@ use Rattle.emu_machine.specs.Headline.{event_values}
 use Rattle.history_law.proofs.Naming.{same_number}
 use Rattle.history_law.proofs.Ranges.{Within, within_right}
 use Rattle.one_history.proofs.Alone.{one_history}
-use Rattle.event_replay.specs.Runs.{outputs_of}
-use Rattle.event_replay.specs.Traces.{trace_of}
+use Rattle.domain_groups.specs.Traces.{outputs_of, trace_of}
 use Rattle.trace_law.specs.Traces.{OpenedAreSame, SettledTraces, SettledTraceIsOne}
 
 -- ## Opened valuations

@@ -7,13 +7,13 @@ use Rattle.design_core.specs.Design.{port_bits}
 use Rattle.design_core.specs.Valuation.{Valuation}
 use Rattle.emu_machine.specs.declared.map.Spot.{Spot}
 use Rattle.emu_machine.specs.declared.place.Place.TheVariants as place
-use Rattle.emu_machine.specs.declared.results.Results.{Results}
+use Rattle.emu_machine.specs.Results.{Results}
 use Rattle.emu_machine.specs.State.{State, net_value, after_frame, run_of}
-use Rattle.emu_machine.specs.Acceptance.{Case, A9, output_differs}
+use Rattle.emu_machine.specs.declared.rule.Rule.TheVariants.{A9}
+use Rattle.emu_machine.specs.Acceptance.{Case, output_differs}
 use Rattle.emu_machine.specs.Headline.{Agrees, RunsTogether}
 use Rattle.accepted_law.proofs.Whole.{accepted_agrees}
-use Rattle.event_replay.specs.Runs.{outputs_of, spots_of}
-use Rattle.event_replay.specs.Traces.{trace_of}
+use Rattle.domain_groups.specs.Traces.{outputs_of, spots_of, trace_of}
 use Rattle.trace_law.specs.Traces.{TracesAgree, OutputsAreMapped}
 
 -- ## As many spots as output bits

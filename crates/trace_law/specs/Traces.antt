@@ -13,13 +13,13 @@ use Rattle.design_core.specs.Event.{Follow, IsHistory, HasOneHistory}
 use Rattle.emu_io.specs.Sink.{AppendsWhereTold}
 use Rattle.emu_machine.specs.State.{State, run_of}
 use Rattle.emu_machine.specs.Mapped.{IsLoaded}
-use Rattle.emu_machine.specs.Acceptance.{Case, A2, A5, A9, Holds, IsAccepted}
+use Rattle.emu_machine.specs.declared.rule.Rule.TheVariants.{A2, A5, A9}
+use Rattle.emu_machine.specs.Acceptance.{Case, Holds, IsAccepted}
 use Rattle.emu_machine.specs.Headline.{EventsFit, event_values}
 use Rattle.emu_machine.specs.Law.{IsCase}
 use Rattle.emu_machine.specs.Plain.{IsPlainResults}
 use Rattle.cycle_sim.specs.Loading.{FreeAreZero}
-use Rattle.event_replay.specs.Runs.{outputs_of, settled_trace, machine_trace, BreaksOff}
-use Rattle.event_replay.specs.Traces.{trace_of}
+use Rattle.domain_groups.specs.Traces.{outputs_of, settled_trace, machine_trace, BreaksOff, trace_of}
 
 -- where the twelve rules hold, the trace of a machine that is loaded from the opened valuation is that of
 -- the original, whatever the opening and the events

@@ -1,5 +1,5 @@
 use Rattle.std.proofs.Common.{◌≡◌, length}
-use Rattle.event_replay.specs.Lines.{without_returns}
+use Rattle.domain_groups.specs.Lines.{without_returns}
 use Rattle.event_replay.proofs.lines.strip_returns.Given as goal
 
 abbrev pub invariant-returns : goal.invariant-returns

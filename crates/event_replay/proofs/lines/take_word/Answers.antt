@@ -1,6 +1,6 @@
 use Rattle.std.proofs.Common.{◌≡◌, true, get_or, rules}
 use Rattle.std.proofs.lemmas.List.{take_rest}
-use Rattle.event_replay.specs.Lines.{is_blank}
+use Rattle.domain_groups.specs.Lines.{is_blank}
 use Rattle.event_replay.proofs.Pieces.{word_cut, word_last, after_first}
 use Rattle.event_replay.proofs.lines.take_word.Goals as goal
 

@@ -1,26 +1,27 @@
-use Rattle.std.proofs.Common.{◌≡◌, ◌∙◌, subst}
+use Rattle.std.proofs.Common.{IfOk}
 use Rattle.serde_json.specs.View.{view}
-use Rattle.event_replay.specs.Openings.{IsOpening, SaysOpening}
-use Rattle.event_replay.specs.Settings.{AreSet, AreInputBits}
-use Rattle.event_replay.proofs.Answering.{same_answer, if_ok}
-use Rattle.event_replay.proofs.InputBits.{input_bits}
-use Rattle.event_replay.proofs.Taken.{says_opening, said_opening}
+use Rattle.settled_model.specs.Opening.{Opens}
+use Rattle.event_replay.specs.Opened.{AreStates}
+use Rattle.event_replay.specs.Settings.{AreInputBits}
+use Rattle.event_replay.proofs.Answering.{if_ok}
+use Rattle.event_replay.proofs.Judging.{Sound, answers, if_sound}
 use Rattle.event_replay.proofs.opening.read_opening.Goals as goal
 
 pub returns-clause-means : goal.returns-clause-means
 returns-clause-means c =
-    let tree = view c.in_ok-tree.tree in
-    let inner = c.in_ok-ports.ports in
-    let ports = c.args.design.now.inputs in
-    let same : inner ≡ ports = c.in_ok-ports.ensures ∙ c.as_slice.ensures ∙ c.inputs.ensures in
-    same_answer (IsOpening inner tree) (SaysOpening ports c.args.bytes.now) c.read_tree.result
-    (λ values. says_opening ports inner c.args.bytes.now tree values c.in_ok-tree.ensures same)
-    (λ values. said_opening ports inner c.args.bytes.now tree values c.in_ok-tree.ensures same)
-    c.read_tree.ensures.means
+    answers c.args.design.now c.args.bytes.now c.in_ok-given.given c.judged.result (record { tree = view c.in_ok-tree.tree; text = c.in_ok-tree.ensures; form = c.in_ok-given.ensures.told }) c.judged.ensures
+
+pub returns-clause-opens : goal.returns-clause-opens
+returns-clause-opens c =
+    if_ok (Sound c.args.design.now) (Opens c.args.design.now) c.judged.result (λ o sound. sound.opens)
+    (if_sound c.args.design.now c.in_ok-given.given c.judged.result c.stands.ensures.design c.input_is_input_bit.ensures c.in_ok-given.ensures.apart c.judged.ensures)
 
 pub returns-clause-bits : goal.returns-clause-bits
 returns-clause-bits c =
-    let same : c.in_ok-ports.ports ≡ c.args.design.now.inputs = c.in_ok-ports.ensures ∙ c.as_slice.ensures ∙ c.inputs.ensures in
-    if_ok (AreSet c.in_ok-ports.ports) (AreInputBits c.args.design.now) c.read_tree.result
-    (λ values set. input_bits c.args.design.now values c.stands.ensures.design (subst (λ ps. AreSet ps values) same set))
-    c.read_tree.ensures.set
+    if_ok (Sound c.args.design.now) (λ o. AreInputBits c.args.design.now o.inputs) c.judged.result (λ o sound. sound.bits)
+    (if_sound c.args.design.now c.in_ok-given.given c.judged.result c.stands.ensures.design c.input_is_input_bit.ensures c.in_ok-given.ensures.apart c.judged.ensures)
+
+pub returns-clause-states : goal.returns-clause-states
+returns-clause-states c =
+    if_ok (Sound c.args.design.now) (λ o. AreStates c.args.design.now o.ones) c.judged.result (λ o sound. sound.states)
+    (if_sound c.args.design.now c.in_ok-given.given c.judged.result c.stands.ensures.design c.input_is_input_bit.ensures c.in_ok-given.ensures.apart c.judged.ensures)

@@ -4,7 +4,7 @@ use Rattle.emu_io.specs.Sink.{AppendsWhereTold}
 use Rattle.emu_machine.specs.State.{run_of}
 use Rattle.cycle_sim.specs.Tables.{state}
 use Rattle.settled_model.specs.Runs.{last_of}
-use Rattle.event_replay.specs.Runs.{machine_trace}
+use Rattle.domain_groups.specs.Traces.{machine_trace}
 use Rattle.event_replay.proofs.replaying.replay_lines.Given as goal
 
 abbrev pub invariant-events : goal.invariant-events

@@ -1,6 +1,6 @@
 use Rattle.std.proofs.Common.{◌≡◌, ◌++◌, length, drop}
 use Rattle.design_core.specs.Design.{port_bits}
-use Rattle.event_replay.specs.Traces.{ports_text}
+use Rattle.domain_groups.specs.Traces.{ports_text}
 use Rattle.event_replay.proofs.trace.push_ports.Given as goal
 
 abbrev pub invariant-ports : goal.invariant-ports

@@ -1,6 +1,6 @@
 use Rattle.std.proofs.Common.{◌≡◌, ◌++◌, ◌≤◌, length}
 use Rattle.design_core.specs.Operation.{number}
-use Rattle.event_replay.specs.Traces.{digit_count, hex_text}
+use Rattle.domain_groups.specs.Traces.{digit_count, hex_text}
 use Rattle.event_replay.proofs.trace.push_value.Given as goal
 
 abbrev pub invariant-digits : goal.invariant-digits
