@@ -5,27 +5,27 @@ use Rattle.serde_json.specs.declared.value.Value.{Value}
 use Rattle.result_files.specs.Faults.{Answers}
 use Rattle.result_files.specs.declared.fault.FormFault.{FormFault}
 use Rattle.result_files.specs.declared.fault.FormFault.TheVariants.{NotYet, NoMemory}
-use Rattle.std.proofs.lemmas.List.{map-append, take_more}
+use Rattle.std.proofs.lemmas.List.{map-append, take_more, take-map}
 use Rattle.std.proofs.lemmas.Option.{same_Some, slice_get-map, slice_get_read}
 use Rattle.serde_json.specs.Data.{Data}
-use Rattle.result_files.specs.Lists.{SayEach}
+use Rattle.result_files.specs.Lists.{SayEach, FirstBad}
 
 -- one entry more at the end
-pub say_more : {A : Type 0} (Says : Data → A → Type 0) (trees : List Data) (values : List A) (tree : Data) (value : A) → SayEach Says trees values → Says tree value → SayEach Says (trees ++ tree ∷ []) (values ++ value ∷ [])
+pub say_more : {X A : Type 0} (Says : X → A → Type 0) (trees : List X) (values : List A) (tree : X) (value : A) → SayEach Says trees values → Says tree value → SayEach Says (trees ++ tree ∷ []) (values ++ value ∷ [])
 say_more Says [] [] tree value before here = (here, tt)
 say_more Says [] (v ∷ vs) tree value before here = absurd before
 say_more Says (t ∷ ts) [] tree value before here = absurd before
 say_more Says (t ∷ ts) (v ∷ vs) tree value before here = (before.0, say_more Says ts vs tree value before.1 here)
 
 -- an entry says something
-pub says_at : {A : Type 0} (Says : Data → A → Type 0) (trees : List Data) (values : List A) (k : ℕ) (tree : Data) → SayEach Says trees values → slice_get trees k ≡ Some tree → (value : A) × Says tree value
+pub says_at : {X A : Type 0} (Says : X → A → Type 0) (trees : List X) (values : List A) (k : ℕ) (tree : X) → SayEach Says trees values → slice_get trees k ≡ Some tree → (value : A) × Says tree value
 says_at Says [] vs k tree each at-tree = cc
 says_at Says (t ∷ ts) [] k tree each at-tree = absurd each
 says_at Says (t ∷ ts) (v ∷ vs) zero tree each at-tree = (v, subst (λ d. Says d v) (same_Some _ _ at-tree) each.0)
 says_at Says (t ∷ ts) (v ∷ vs) (suc k) tree each at-tree = says_at Says ts vs k tree each.1 at-tree
 
 -- the same trees say the same values
-pub says_same : {A : Type 0} (Says : Data → A → Type 0) → ((tree : Data) (v w : A) → Says tree v → Says tree w → v ≡ w) → (trees : List Data) (vs ws : List A) → SayEach Says trees vs → SayEach Says trees ws → vs ≡ ws
+pub says_same : {X A : Type 0} (Says : X → A → Type 0) → ((tree : X) (v w : A) → Says tree v → Says tree w → v ≡ w) → (trees : List X) (vs ws : List A) → SayEach Says trees vs → SayEach Says trees ws → vs ≡ ws
 says_same Says one [] [] [] a b = refl
 says_same Says one [] [] (w ∷ ws) a b = absurd b
 says_same Says one [] (v ∷ vs) ws a b = absurd a
@@ -37,7 +37,7 @@ says_same Says one (t ∷ ts) (v ∷ vs) (w ∷ ws) a b =
     cc
 
 -- a value among those that are said is said by a tree
-pub said : {A : Type 0} (Says : Data → A → Type 0) (trees : List Data) (values : List A) (k : ℕ) (value : A) → SayEach Says trees values → slice_get values k ≡ Some value → (tree : Data) × Says tree value
+pub said : {X A : Type 0} (Says : X → A → Type 0) (trees : List X) (values : List A) (k : ℕ) (value : A) → SayEach Says trees values → slice_get values k ≡ Some value → (tree : X) × Says tree value
 said Says ts [] k value each at-value = cc
 said Says [] (v ∷ vs) k value each at-value = absurd each
 said Says (t ∷ ts) (v ∷ vs) zero value each at-value = (t, subst (λ x. Says t x) (same_Some _ _ at-value) each.0)
@@ -59,3 +59,15 @@ not_each Says entries k entry NotYet within at-entry none = λ values each.
     let found = says_at Says (map view entries) values k (view entry) each tree in
     none found.0 found.1
 not_each Says entries k entry NoMemory within at-entry none = tt
+
+-- where an entry is bad and those before it say values, it is the first bad one
+pub bad_at : {A : Type 0} (Says : Data → A → Type 0) (IsBad : Data → Type 0) (entries : List Value) (values : List A) (k : ℕ) (entry : Value) → k < length entries → entry ≡ get_or entries k entry → SayEach Says (map view (take k entries)) values → IsBad (view entry) → FirstBad Says IsBad (map view entries) k
+bad_at Says IsBad entries values k entry within at-entry before bad =
+    let item = slice_get_read entries (length entries) k entry refl within at-entry in
+    record {
+      values = values;
+      before = subst (λ trees. SayEach Says trees values) (sym (take-map view k entries)) before;
+      thing = view entry;
+      there = rw (slice_get-map, item) refl;
+      bad = bad;
+    }

@@ -11,3 +11,9 @@ pub mod Netlists
 pub mod Driven
 pub mod Parts
 pub mod Chips
+pub mod RowLemmas
+pub mod ScheduleFaults
+pub mod ToldLists
+pub mod MapLemmas
+pub mod Floats
+pub mod OneResult

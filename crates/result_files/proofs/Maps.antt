@@ -11,10 +11,11 @@ use Rattle.emu_machine.specs.declared.map.Subject.{Subject}
 use Rattle.emu_machine.specs.declared.map.Subject.TheVariants.{Net, Up, Down, Take, Next, TakeWrite, Old, TakeRead}
 use Rattle.emu_machine.specs.declared.netlist.Chip.{Chip}
 use Rattle.emu_machine.specs.declared.schedule.Schedule.{Schedule}
-use Rattle.emu_machine.specs.Law.{ChipEntryFits}
+use Rattle.emu_machine.specs.Results.{ChipEntryFits}
 use Rattle.emu_machine.specs.Plain.{IsNetSubject, IsPlainMap}
 use Rattle.result_files.specs.Trees.{list, whole}
-use Rattle.result_files.specs.PlainMap.{IsSubjectTree, IsKeptTree, IsSpotTree, IsEntryTree, IsOnlyChip, IsMapTree, AreThere, FitsChip, SaysMap, TextsTellMapsApart}
+use Rattle.result_files.specs.Map.{IsKeptTree, IsSpotTree}
+use Rattle.result_files.specs.PlainMap.{IsSubjectTree, IsEntryTree, IsOnlyChip, IsMapTree, AreThere, FitsChip, SaysMap, TextsTellMapsApart}
 use Rattle.result_files.proofs.Entries.{said}
 use Rattle.result_files.proofs.Inside.{same_list, same_tree}
 use Rattle.result_files.proofs.Schedules.{one_member, at_place}

@@ -54,7 +54,7 @@ pub read_plain : (tree : Data) (r : Result Schedule FormFault) → Answers (IsSc
 read_plain tree (Ok schedule) answer = plain tree schedule answer
 read_plain tree (Err fault) answer = tt
 
-one_list : {A : Type 0} (Says : Data → A → Type 0) → ((tree : Data) (v w : A) → Says tree v → Says tree w → v ≡ w) → (tree : Data) (vs ws : List A) → IsListOf Says tree vs → IsListOf Says tree ws → vs ≡ ws
+pub one_list : {A : Type 0} (Says : Data → A → Type 0) → ((tree : Data) (v w : A) → Says tree v → Says tree w → v ≡ w) → (tree : Data) (vs ws : List A) → IsListOf Says tree vs → IsListOf Says tree ws → vs ≡ ws
 one_list Says one tree vs ws a b =
     says_same Says one a.trees vs ws a.each
     (subst (λ ts. SayEach Says ts ws) (same_list b.trees a.trees (sym b.tree_is ∙ a.tree_is)) b.each)

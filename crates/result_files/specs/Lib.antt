@@ -1,6 +1,11 @@
 pub mod Trees
 pub mod Faults
 pub mod Lists
+pub mod Rows
+pub mod Schedule
+pub mod Map
+pub mod Readers
+pub mod Printed
 pub mod PlainSchedule
 pub mod PlainMap
 pub mod PlainNetlist

@@ -11,10 +11,11 @@ use Rattle.emu_machine.specs.declared.map.Subject.{Subject}
 use Rattle.emu_machine.specs.declared.map.Subject.TheVariants.{Net}
 use Rattle.emu_machine.specs.declared.netlist.Chip.{Chip}
 use Rattle.emu_machine.specs.declared.schedule.Schedule.{Schedule}
-use Rattle.emu_machine.specs.Law.{MapFits}
+use Rattle.emu_machine.specs.Results.{MapFits}
 use Rattle.emu_machine.specs.Netlist.{chip_at}
 use Rattle.result_files.specs.Trees.{list, whole, IsWord, HasMember}
 use Rattle.result_files.specs.Lists.{HasList}
+use Rattle.result_files.specs.Map.{IsKeptTree, IsSpotTree}
 
 -- the tree is ["net",N], with a number of 32 bits
 pub record IsNetTree (tree : Data) (n : ℕ) : Type 0 where
@@ -25,16 +26,6 @@ pub record IsNetTree (tree : Data) (n : ℕ) : Type 0 where
 abbrev pub IsSubjectTree : Data → Subject → Type 0
 IsSubjectTree tree (Net n) = IsNetTree tree n.place
 IsSubjectTree tree other = ⊥
-
--- the tree is `true` or `false`
-abbrev pub IsKeptTree : Data → Bool → Type 0
-IsKeptTree tree kept = tree ≡ boolean kept
-
--- the tree is [CHIP,NET], with numbers of 32 bits
-pub record IsSpotTree (tree : Data) (spot : Spot) : Type 0 where
-  pub tree_is : tree ≡ list (whole spot.chip.place ∷ whole spot.net.place ∷ [])
-  pub chip_fits : IsWord spot.chip.place
-  pub net_fits : IsWord spot.net.place
 
 -- the tree has a chip's subjects, tells which registers are kept, and has no memory
 pub record IsEntryTree (tree : Data) (entry : ChipMap) : Type 0 where

@@ -9,19 +9,34 @@
 
 mod drivers;
 mod fault;
+mod map_reader;
 mod netlist_line;
 mod numbered;
 mod plain_map;
 mod plain_netlist;
 mod plain_schedule;
+mod printed;
+mod printed_map;
+mod printed_schedule;
 mod rest;
+mod result_fault;
+mod rows;
+mod schedule_reader;
+mod told;
 mod tree_list;
 mod trees;
 
 pub use fault::FormFault;
+pub use map_reader::{maps_are_told_apart, read_map};
 pub use plain_map::{plain_maps_are_told_apart, read_plain_map};
 pub use plain_netlist::{plain_netlists_are_told_apart, read_plain_netlist};
 pub use plain_schedule::{plain_schedules_are_told_apart, read_plain_schedule};
+pub use printed_map::print_map;
+pub use printed_schedule::print_schedule;
+pub use result_fault::ResultFault;
+pub use schedule_reader::{read_schedule, schedules_are_told_apart};
 
 #[cfg(test)]
 mod plain_tests;
+#[cfg(test)]
+mod tests;

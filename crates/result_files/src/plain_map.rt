@@ -2,18 +2,19 @@
 ghost use Rattle.std.specs.Prelude.{◌≡◌, ◌↔◌, ℕ, List, [], ◌∷◌, IfOk, IsTrue, codes, length, MatchOption};
 ghost use Rattle.serde_json.specs.Data.{Data};
 ghost use Rattle.serde_json.specs.View.{view};
-ghost use Rattle.emu_machine.specs.Law.{ChipEntryFits};
+ghost use Rattle.emu_machine.specs.Results.{ChipEntryFits};
 ghost use Rattle.emu_machine.specs.Plain.{IsPlainMap};
 ghost use Rattle.result_files.specs.Faults.{Answers};
 ghost use Rattle.result_files.specs.Trees.{list, Finds, HasMember};
-ghost use Rattle.result_files.specs.PlainMap.{IsSubjectTree, IsSpotTree, IsEntryTree, IsMapTree, IsOnlyChip, IsThere, AreThere, FitsChip, SaysMap, TextsTellMapsApart};
+ghost use Rattle.result_files.specs.PlainMap.{IsSubjectTree, IsEntryTree, IsMapTree, IsOnlyChip, IsThere, AreThere, FitsChip, SaysMap, TextsTellMapsApart};
 
 use crate::fault::FormFault;
+use crate::map_reader::read_spot;
 use crate::tree_list::{FromTree, read_member_list};
 use crate::trees::{is_empty_list, is_version_one, read_only, read_two, read_word};
 use emu_io::List;
 use emu_machine::{Chip, ChipMap, Spot, StateMap, Subject};
-use id_arena::{ChipId, ChipNetId, NetId};
+use id_arena::NetId;
 use json_members::read_json;
 use serde_json::Value;
 use std::alloc::Global;
@@ -157,7 +158,7 @@ fn read_subject(tree: &Value) -> Option<Subject>
 }
 
 impl FromTree for bool {
-    ghost use Rattle.result_files.specs.PlainMap.{IsKeptTree};
+    ghost use Rattle.result_files.specs.Map.{IsKeptTree};
 
     ghost Says = { IsKeptTree };
 
@@ -170,7 +171,7 @@ impl FromTree for bool {
 }
 
 impl FromTree for Spot {
-    ghost use Rattle.result_files.specs.PlainMap.{IsSpotTree};
+    ghost use Rattle.result_files.specs.Map.{IsSpotTree};
 
     ghost Says = { IsSpotTree };
 
@@ -180,16 +181,4 @@ impl FromTree for Spot {
             None => Err(FormFault::NotYet),
         }
     }
-}
-
-/// The net of a chip that a tree says.
-fn read_spot(tree: &Value) -> Option<Spot>
-    ensures { Finds (IsSpotTree (view tree.now)) result }
-{
-    let (chip, net) = read_two(tree)?;
-    let place = read_word(chip)?;
-    let chip = ChipId { place };
-    let place = read_word(net)?;
-    let net = ChipNetId { place };
-    Some(Spot { chip, net })
 }

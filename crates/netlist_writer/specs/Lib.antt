@@ -1,0 +1,3 @@
+pub mod NetlistText
+pub mod Shown
+pub mod HexDigits
