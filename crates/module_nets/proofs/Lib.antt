@@ -1,0 +1,6 @@
+mod Gathering
+mod Judging
+mod Numbering
+mod OfKinds
+mod Surveying
+mod Uses
