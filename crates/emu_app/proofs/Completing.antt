@@ -15,19 +15,17 @@ use Rattle.emu_app.specs.declared.what.What.TheVariants.{Design, Cells, Groups, 
 use Rattle.emu_app.specs.What.{limit, order}
 use Rattle.emu_app.specs.Command.{CommandWords, IsCommand, Reads, command_word, name_of}
 use Rattle.emu_app.specs.Fetching.{Texts, AreHeld, IsHeld, FirstTooLarge, NotThere, FetchFailed}
-use Rattle.emu_app.specs.Forms.{HasCells, SaysBoard, SaysDesign, SaysNetlist}
+use Rattle.emu_app.specs.Forms.{HasCells, SaysBoard, SaysDesign, SaysGroups, SaysNetlist, SaysOpening, SaysShortSchedule}
 use Rattle.emu_app.specs.Printing.{status_of}
 use Rattle.emu_app.specs.Reading.{AreRead, BoardSays, Refuses, RefusedTextsStandForNothing, ResultsSay, StandFor}
 use Rattle.emu_app.specs.Runs.{CanReplay, DesignSays, RecordingSays}
 use Rattle.emu_app.specs.declared.recording.Recording.{Recording}
 use Rattle.design_core.specs.declared.parts.Parts.{Parts}
-use Rattle.event_replay.specs.Events.{SaysEvents}
-use Rattle.event_replay.specs.Openings.{SaysOpening}
+use Rattle.domain_groups.specs.Events.{SaysEvents}
+use Rattle.domain_groups.specs.Groups.{InputGroups}
 use Rattle.emu_app.specs.Answers.{CommandMeans, Ends, HeldMeans, IsTraced, Prints, WorkMeans}
 use Rattle.emu_app.specs.Complete.{AreFine, Completes, IsFine, IsInOrder, NothingFailed}
-use Rattle.domain_groups.specs.NoGroups.{SaysNoGroups}
 use Rattle.result_files.specs.PlainMap.{SaysMap}
-use Rattle.result_files.specs.PlainSchedule.{SaysSchedule}
 
 second_word : (a b c d : List ℕ) (xs ys : List (List ℕ)) → a ∷ b ∷ xs ≡ c ∷ d ∷ ys → b ≡ d
 second_word a b c d xs ys e = cc
@@ -81,13 +79,13 @@ same_texts held n a b what reads are-a are-b = one_text held (name_of n what) (a
 abbrev AreSame : Command → Texts → Texts → Type 0
 AreSame command a b = (what : What) → Reads command what → a what ≡ b what
 
-pub first_too : (command : Command) (top : List ℕ) (a b : Texts) (p : Parts) → a Design ≡ b Design → a Cells ≡ b Cells → a Groups ≡ b Groups → DesignSays top a p → DesignSays top b p
-first_too command top a b p design cells groups says =
+pub first_too : (command : Command) (top : List ℕ) (a b : Texts) (p : Parts) (v : InputGroups) → a Design ≡ b Design → a Cells ≡ b Cells → a Groups ≡ b Groups → DesignSays top a p v → DesignSays top b p v
+first_too command top a b p v design cells groups says =
     record {
       design = subst (λ t. SaysDesign top t p) design says.design;
       cells = subst HasCells cells says.cells;
       ranked = says.ranked;
-      groups = subst SaysNoGroups groups says.groups;
+      groups = subst (λ t. SaysGroups p t v) groups says.groups;
     }
 
 -- so they stand for the same case
@@ -101,7 +99,11 @@ module _ (top : List ℕ) (a b : Texts) (same : (what : What) → order what < 7
         chip = s.chip;
         results = s.results;
         board_says = record {
-          first = first_too Check top a b s.design (same Design (omega arith)) (same Cells (omega arith)) (same Groups (omega arith)) board.first;
+          plain = record {
+            groups = board.plain.groups;
+            first = first_too Check top a b s.design board.plain.groups (same Design (omega arith)) (same Cells (omega arith)) (same Groups (omega arith)) board.plain.first;
+            none = board.plain.none;
+          };
           board = subst (λ t. SaysBoard t s.chip) (same Board (omega arith)) board.board;
         };
         results_say = record {
@@ -109,7 +111,7 @@ module _ (top : List ℕ) (a b : Texts) (same : (what : What) → order what < 7
           schedule = say.schedule;
           map = say.map;
           says_netlist = subst (λ t. SaysNetlist t say.chip) (same Netlist (omega arith)) say.says_netlist;
-          says_schedule = subst (λ t. SaysSchedule t say.schedule) (same ScheduleText (omega arith)) say.says_schedule;
+          says_schedule = subst (λ t. SaysShortSchedule t say.schedule) (same ScheduleText (omega arith)) say.says_schedule;
           says_map = subst (λ t. SaysMap t say.chip say.map) (same Map (omega arith)) say.says_map;
           is = say.is;
         };
@@ -117,11 +119,13 @@ module _ (top : List ℕ) (a b : Texts) (same : (what : What) → order what < 7
       }
 
 -- and for the same recording
-pub recorded_too : (a b : Texts) (p : Parts) (r : Recording) → a Opening ≡ b Opening → a Events ≡ b Events → RecordingSays a p r → RecordingSays b p r
-recorded_too a b p r opening events says =
+pub recorded_too : (a b : Texts) (p : Parts) (r : Recording) → a Groups ≡ b Groups → a Opening ≡ b Opening → a Events ≡ b Events → RecordingSays a p r → RecordingSays b p r
+recorded_too a b p r groups opening events says =
     record {
-      opening = subst (λ t. SaysOpening p.inputs t r.inputs) opening says.opening;
-      events = subst (λ t. SaysEvents p.inputs t r.events) events says.events;
+      opening = subst (λ t. SaysOpening p t r.opening) opening says.opening;
+      groups = says.groups;
+      says_groups = subst (λ t. SaysGroups p t says.groups) groups says.says_groups;
+      events = subst (λ t. SaysEvents says.groups p.inputs t r.events) events says.events;
     }
 
 -- so texts are fine where others that are held under the same names are
@@ -133,8 +137,9 @@ fine_too Settle top a b same fine =
       design = fine.design;
       recording = fine.recording;
       stand = record {
-        first = first_too Settle top a b fine.design (same Design (omega arith)) (same Cells (omega arith)) (same Groups (omega arith)) fine.stand.first;
-        recorded = recorded_too a b fine.design fine.recording (same Opening (omega arith)) (same Events (omega arith)) fine.stand.recorded;
+        groups = fine.stand.groups;
+        first = first_too Settle top a b fine.design fine.stand.groups (same Design (omega arith)) (same Cells (omega arith)) (same Groups (omega arith)) fine.stand.first;
+        recorded = recorded_too a b fine.design fine.recording (same Groups (omega arith)) (same Opening (omega arith)) (same Events (omega arith)) fine.stand.recorded;
       };
     }
 fine_too Replay top a b same fine =
@@ -142,7 +147,7 @@ fine_too Replay top a b same fine =
       judged = fine.judged;
       recording = fine.recording;
       stand = case_too top a b (λ what early. same what (omega (arith, early))) fine.judged fine.stand;
-      recorded = recorded_too a b fine.judged.design fine.recording (same Opening (omega arith)) (same Events (omega arith)) fine.recorded;
+      recorded = recorded_too a b fine.judged.design fine.recording (same Groups (omega arith)) (same Opening (omega arith)) (same Events (omega arith)) fine.recorded;
       fit = fine.fit;
     }
 
@@ -201,7 +206,7 @@ module _ (law : RefusedTextsStandForNothing) (told : Option Held) (before now : 
   -- so the answer is that the results are accepted
   found_ok : (found : Answer) → CommandMeans told before now blamed words found → status_of found ≡ status.Ok
   found_ok answer.Usage means = absurd (means fair.names fair.shape)
-  found_ok (answer.Accepted schedule) means = refl
+  found_ok (answer.Accepted results) means = refl
   found_ok answer.Rejected means =
       let fine : AreFine means.names fair.held = fine_for means.names means.shape in
       absurd (not_rejected fair.held means.names fine (subst (λ t. IfSome t (λ held. HeldMeans held means.names answer.Rejected)) fair.tells means.means.1))

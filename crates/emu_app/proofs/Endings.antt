@@ -1,7 +1,7 @@
 -- What the end of a command says at the statuses Ok, Rejected and Usage.
 use Rattle.std.proofs.Common.{ℕ, ◌≡◌, ◌⊎◌, inl, inr, List, Option, Some, None, IfSome, Ok, Err, refl, subst}
 use Rattle.emu_io.specs.Files.{Held}
-use Rattle.emu_machine.specs.declared.schedule.Schedule.{Schedule}
+use Rattle.emu_machine.specs.Results.{Results}
 use Rattle.emu_app.specs.declared.answer.Answer.{Answer}
 use Rattle.emu_app.specs.declared.answer.Answer.TheVariants as answer
 use Rattle.emu_app.specs.declared.status.Status.{Status}
@@ -18,15 +18,15 @@ use Rattle.emu_app.specs.Answers.{CommandMeans, Comes, HeldMeans, HeldTrace, IsT
 use Rattle.emu_app.specs.Endings.{Printed}
 use Rattle.emu_app.specs.Outcomes.{IsOk, IsRejected, OkHolds, RejectedHolds}
 
-accepted_work : (held : Held) (n : CommandWords) (texts : Texts) (schedule : Schedule) (old new : Option (List ℕ)) (command : Command) → n.command ≡ command → AreHeld held n texts → WorkMeans command n.top texts (answer.Accepted schedule) → OkHolds command n old new held
-accepted_work held n texts schedule old new Check is are means =
-    record { texts = texts; are_held = are; schedule = schedule; accepts = means }
-accepted_work held n texts schedule old new Settle is are means = absurd means
-accepted_work held n texts schedule old new Replay is are means = absurd means
+accepted_work : (held : Held) (n : CommandWords) (texts : Texts) (results : Results) (old new : Option (List ℕ)) (command : Command) → n.command ≡ command → AreHeld held n texts → WorkMeans command n.top texts (answer.Accepted results) → OkHolds command n old new held
+accepted_work held n texts results old new Check is are means =
+    record { texts = texts; are_held = are; results = results; accepts = means }
+accepted_work held n texts results old new Settle is are means = absurd means
+accepted_work held n texts results old new Replay is are means = absurd means
 
-accepted_held : (told : Option Held) (n : CommandWords) (schedule : Schedule) (old new : Option (List ℕ)) → IfSome told (λ held. HeldMeans held n (answer.Accepted schedule)) → IfSome told (OkHolds n.command n old new)
-accepted_held None n schedule old new means = tt
-accepted_held (Some held) n schedule old new means = accepted_work held n means.texts schedule old new n.command refl means.are_held means.means
+accepted_held : (told : Option Held) (n : CommandWords) (results : Results) (old new : Option (List ℕ)) → IfSome told (λ held. HeldMeans held n (answer.Accepted results)) → IfSome told (OkHolds n.command n old new)
+accepted_held None n results old new means = tt
+accepted_held (Some held) n results old new means = accepted_work held n means.texts results old new n.command refl means.are_held means.means
 
 rejected_work : (held : Held) (n : CommandWords) (texts : Texts) (command : Command) → n.command ≡ command → AreHeld held n texts → WorkMeans command n.top texts answer.Rejected → RejectedHolds command n held
 rejected_work held n texts Check is are means = record { texts = texts; are_held = are; rejects = means }
@@ -50,8 +50,8 @@ traced_held (Some held) n old new trace means text = traced_work held n old new 
 -- by the answer that was found
 ok_found : (told : Option Held) (before now : ℕ) (blamed : Option (List ℕ)) (words : List (List ℕ)) (old new : Option (List ℕ)) (found : Answer) → CommandMeans told before now blamed words found → status_of found ≡ status.Ok → IsOk told words old new
 ok_found told before now blamed words old new answer.Usage means is = absurd (let e : status.Usage ≡ status.Ok = is in cc)
-ok_found told before now blamed words old new (answer.Accepted schedule) means is =
-    record { names = means.names; shape = means.shape; held = accepted_held told means.names schedule old new means.means.1 }
+ok_found told before now blamed words old new (answer.Accepted results) means is =
+    record { names = means.names; shape = means.shape; held = accepted_held told means.names results old new means.means.1 }
 ok_found told before now blamed words old new answer.Rejected means is = absurd (let e : status.Rejected ≡ status.Ok = is in cc)
 ok_found told before now blamed words old new (answer.TooLarge what) means is = absurd (let e : status.Refused ≡ status.Ok = is in cc)
 ok_found told before now blamed words old new (answer.Refused what) means is = absurd (let e : status.Refused ≡ status.Ok = is in cc)
@@ -64,7 +64,7 @@ ok_traced told words old new writes =
 
 rejected_found : (told : Option Held) (before now : ℕ) (blamed : Option (List ℕ)) (words : List (List ℕ)) (found : Answer) → CommandMeans told before now blamed words found → status_of found ≡ status.Rejected → IsRejected told words
 rejected_found told before now blamed words answer.Usage means is = absurd (let e : status.Usage ≡ status.Rejected = is in cc)
-rejected_found told before now blamed words (answer.Accepted schedule) means is = absurd (let e : status.Ok ≡ status.Rejected = is in cc)
+rejected_found told before now blamed words (answer.Accepted results) means is = absurd (let e : status.Ok ≡ status.Rejected = is in cc)
 rejected_found told before now blamed words answer.Rejected means is =
     record { names = means.names; shape = means.shape; judges = means.means.0; held = rejected_held told means.names means.means.1 }
 rejected_found told before now blamed words (answer.TooLarge what) means is = absurd (let e : status.Refused ≡ status.Rejected = is in cc)
@@ -73,7 +73,7 @@ rejected_found told before now blamed words (answer.ReadFault name) means is = a
 
 usage_found : (told : Option Held) (before now : ℕ) (blamed : Option (List ℕ)) (words : List (List ℕ)) (found : Answer) → CommandMeans told before now blamed words found → status_of found ≡ status.Usage → IsNoCommand words
 usage_found told before now blamed words answer.Usage means is = means
-usage_found told before now blamed words (answer.Accepted schedule) means is = absurd (let e : status.Ok ≡ status.Usage = is in cc)
+usage_found told before now blamed words (answer.Accepted results) means is = absurd (let e : status.Ok ≡ status.Usage = is in cc)
 usage_found told before now blamed words answer.Rejected means is = absurd (let e : status.Rejected ≡ status.Usage = is in cc)
 usage_found told before now blamed words (answer.TooLarge what) means is = absurd (let e : status.Refused ≡ status.Usage = is in cc)
 usage_found told before now blamed words (answer.Refused what) means is = absurd (let e : status.Refused ≡ status.Usage = is in cc)
@@ -103,7 +103,7 @@ module _ (told : Option Held) (before now : ℕ) (blamed : Option (List ℕ)) (w
 -- no answer says that a design does not fit
 no_fit : (found : Answer) → status_of found ≡ status.NoFit → ⊥
 no_fit answer.Usage is = let e : status.Usage ≡ status.NoFit = is in cc
-no_fit (answer.Accepted schedule) is = let e : status.Ok ≡ status.NoFit = is in cc
+no_fit (answer.Accepted results) is = let e : status.Ok ≡ status.NoFit = is in cc
 no_fit answer.Rejected is = let e : status.Rejected ≡ status.NoFit = is in cc
 no_fit (answer.TooLarge what) is = let e : status.Refused ≡ status.NoFit = is in cc
 no_fit (answer.Refused what) is = let e : status.Refused ≡ status.NoFit = is in cc
@@ -131,3 +131,10 @@ traced_ends M R old new before now comes = inr comes
 
 pub failed_ends : (M : Answer → Type 0) (R : List ℕ → Type 0) (old new : Option (List ℕ)) (before now : ℕ) → Comes M R old new before now (Err store.Failed) → Ends M R old new before now status.WriteFault
 failed_ends M R old new before now comes = inr comes
+
+-- a command that comes to an answer ends as printing it does
+pub answered_ends : (M : Answer → Type 0) (R : List ℕ → Type 0) (found : Answer) (old mid new : Option (List ℕ)) (before between now : ℕ) (ended : Status)
+    → Comes M R old mid before between (Ok (ending.Answered found)) → Printed found mid new between now ended → Ends M R old new before now ended
+answered_ends M R found old mid new before between now ended comes printed =
+    printed_ends M R found comes.0 old new before now ended
+    (subst (λ n. Printed found old new n now ended) comes.2 (subst (λ text. Printed found text new between now ended) comes.1 printed))

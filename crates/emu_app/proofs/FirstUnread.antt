@@ -1,27 +1,35 @@
 -- The first text that is refused, from what is known of the texts before it.
-use Rattle.std.proofs.Common.{ℕ, ◌≡◌, ◌<◌, ◌≤◌, ◌^◌, List, length, Err, sym, subst, arith, lit<}
+use Rattle.std.proofs.Common.{ℕ, ◌≡◌, ◌<◌, ◌≤◌, ◌^◌, List, [], length, Err, sym, subst, arith, lit<}
 use Rattle.design_core.specs.declared.parts.Parts.{Parts}
 use Rattle.design_core.specs.Dependency.{IsRanked}
-use Rattle.design_core.specs.declared.values.PortBit.{PortBit}
 use Rattle.board_model.specs.Answers as boards
-use Rattle.event_replay.specs.Openings.{SaysOpening}
+use Rattle.domain_groups.specs.Answers as groups
+use Rattle.domain_groups.specs.Events.{EachRecordingHasOneAnswer}
+use Rattle.domain_groups.specs.Groups.{InputGroups}
+use Rattle.domain_groups.specs.Openings.{EachOpeningHasOneAnswer}
+use Rattle.settled_model.specs.declared.opening.Opening as opened
+use Rattle.verilog_lex.specs.Reads as reading
+use Rattle.verilog_tree.specs.Laws.{HasOneTree}
+use Rattle.elaborator.specs.GateDesign as designs
 use Rattle.emu_machine.specs.declared.netlist.Chip.{Chip}
 use Rattle.emu_machine.specs.declared.schedule.Schedule.{Schedule}
-use Rattle.result_files.specs.PlainSchedule.{SaysSchedule}
+use Rattle.emu_machine.specs.Results.{Results}
 use Rattle.emu_app.specs.declared.command.Command.{Command}
+use Rattle.emu_app.specs.declared.command.Command.TheVariants.{Check, Settle, Replay}
 use Rattle.emu_app.specs.declared.what.What.{What}
 use Rattle.emu_app.specs.declared.what.What.TheVariants.{Design, Cells, Groups, Board, Netlist, Schedule as ScheduleText, Map, Opening, Events}
 use Rattle.emu_app.specs.declared.plan_texts.OneChip.{OneChip}
 use Rattle.emu_app.specs.declared.refusal.Refusal.TheVariants as refusal
 use Rattle.emu_app.specs.declared.refusal.Unread.{Unread}
 use Rattle.emu_app.specs.declared.refusal.Unread.TheVariants as unread
-use Rattle.emu_app.specs.Command.{Reads}
+use Rattle.emu_app.specs.Command.{Judges, Reads}
 use Rattle.emu_app.specs.What.{order, limit}
 use Rattle.emu_app.specs.Fetching.{Texts, AreWithin}
-use Rattle.emu_app.specs.Forms.{HasCells, HasTree, SaysDesign, SaysNetlist}
-use Rattle.emu_app.specs.Reading.{AllMean, BoardMeans, BoardSays, CellsMean, DesignMeans, EarlierAreRead, FirstSay, FirstUnread, IsRead, Means, NoneSaid, NotYetMeans, TreeMeans}
+use Rattle.emu_app.specs.Forms.{HasCells, HasTree, SaysDesign, SaysGroups, SaysNetlist, SaysOpening, SaysShortSchedule}
+use Rattle.emu_app.specs.Reading.{AllMean, BoardMeans, BoardSays, CellsMean, DesignMeans, EarlierAreRead, EventsAreFaulty, EventsMean, FirstSay, FirstUnread, GroupsAreFaulty, GroupsMean, HasSomeGroups, IsRead, Means, NoneSaid, NotYetMeans, OfDesign, OpeningIsFaulty, OpeningMeans, PlainSays, ResultsSay, TakesGroups, TreeMeans}
 use Rattle.emu_app.specs.Runs.{DesignSays}
 use Rattle.emu_app.proofs.Readings.{no_board, no_chip}
+use Rattle.emu_app.proofs.Recordings.{events_unread, groups_unread, opening_unread, some_unread}
 
 -- a text within its limit is short enough for the lexer
 pub short_text : (texts : Texts) (what : What) (bytes : List ℕ) → bytes ≡ texts what → AreWithin texts → length bytes < 2 ^ 32
@@ -44,13 +52,16 @@ short_text texts what bytes same within =
 -- a text after the design is refused as the first where all before it are read
 pub refused_as : {X Y : Type 0} (S : X → Type 0) (T : Y → Type 0) (command : Command) (top : List ℕ) (texts : Texts) (what : What) (why : Unread)
     → Means what S (Err why) → (FirstUnread command top texts what → NotYetMeans command top texts what)
-    → Reads command what → order Design < order what → (NoneSaid S → IsRead top texts what → ⊥) → EarlierAreRead command top texts what → AllMean command top texts T (Err why)
+    → Reads command what → order Design < order what → (NoneSaid S → IsRead command top texts what → ⊥) → EarlierAreRead command top texts what → AllMean command top texts T (Err why)
 refused_as S T command top texts what (unread.Refused (refusal.NotYet other)) means first reads later none earlier =
     subst (NotYetMeans command top texts) (sym means.0) (first (record { reads = reads; later = later; here = none means.1; earlier = earlier }))
 refused_as S T command top texts what (unread.Refused (refusal.Faulty fault)) means first reads later none earlier = absurd means
 refused_as S T command top texts what (unread.Refused (refusal.Cells fault)) means first reads later none earlier = absurd means
 refused_as S T command top texts what (unread.Refused (refusal.Board fault)) means first reads later none earlier = absurd means
 refused_as S T command top texts what (unread.Refused (refusal.Cycle names)) means first reads later none earlier = absurd means
+refused_as S T command top texts what (unread.Refused (refusal.Groups fault)) means first reads later none earlier = absurd means
+refused_as S T command top texts what (unread.Refused (refusal.Opening fault)) means first reads later none earlier = absurd means
+refused_as S T command top texts what (unread.Refused (refusal.Events fault)) means first reads later none earlier = absurd means
 refused_as S T command top texts what unread.NoMemory means first reads later none earlier = tt
 
 -- the design is the first text, and has faults of its own
@@ -59,6 +70,9 @@ refused_tree T command top texts (unread.Refused (refusal.Faulty fault)) means =
 refused_tree T command top texts (unread.Refused (refusal.Cells fault)) means = absurd means
 refused_tree T command top texts (unread.Refused (refusal.Board fault)) means = absurd means
 refused_tree T command top texts (unread.Refused (refusal.Cycle names)) means = absurd means
+refused_tree T command top texts (unread.Refused (refusal.Groups fault)) means = absurd means
+refused_tree T command top texts (unread.Refused (refusal.Opening fault)) means = absurd means
+refused_tree T command top texts (unread.Refused (refusal.Events fault)) means = absurd means
 refused_tree T command top texts (unread.Refused (refusal.NotYet what)) means = absurd means
 refused_tree T command top texts unread.NoMemory means = tt
 
@@ -68,6 +82,9 @@ refused_cells T command top texts (unread.Refused (refusal.Cells fault)) tree me
 refused_cells T command top texts (unread.Refused (refusal.Faulty fault)) tree means = absurd means
 refused_cells T command top texts (unread.Refused (refusal.Board fault)) tree means = absurd means
 refused_cells T command top texts (unread.Refused (refusal.Cycle names)) tree means = absurd means
+refused_cells T command top texts (unread.Refused (refusal.Groups fault)) tree means = absurd means
+refused_cells T command top texts (unread.Refused (refusal.Opening fault)) tree means = absurd means
+refused_cells T command top texts (unread.Refused (refusal.Events fault)) tree means = absurd means
 refused_cells T command top texts (unread.Refused (refusal.NotYet what)) tree means = absurd means
 refused_cells T command top texts unread.NoMemory tree means = tt
 
@@ -78,6 +95,9 @@ refused_design T command top texts (unread.Refused (refusal.Faulty fault)) cells
 refused_design T command top texts (unread.Refused (refusal.Cells fault)) cells means = absurd means
 refused_design T command top texts (unread.Refused (refusal.Board fault)) cells means = absurd means
 refused_design T command top texts (unread.Refused (refusal.Cycle names)) cells means = absurd means
+refused_design T command top texts (unread.Refused (refusal.Groups fault)) cells means = absurd means
+refused_design T command top texts (unread.Refused (refusal.Opening fault)) cells means = absurd means
+refused_design T command top texts (unread.Refused (refusal.Events fault)) cells means = absurd means
 refused_design T command top texts unread.NoMemory cells means = tt
 
 -- a board is refused where all before it are read: it has a fault, or it is not of one chip without wires
@@ -91,7 +111,12 @@ refused_board T law command top texts (unread.Refused (refusal.NotYet what)) mea
 refused_board T law command top texts (unread.Refused (refusal.Faulty fault)) means reads earlier = absurd means
 refused_board T law command top texts (unread.Refused (refusal.Cells fault)) means reads earlier = absurd means
 refused_board T law command top texts (unread.Refused (refusal.Cycle names)) means reads earlier = absurd means
+refused_board T law command top texts (unread.Refused (refusal.Groups fault)) means reads earlier = absurd means
+refused_board T law command top texts (unread.Refused (refusal.Opening fault)) means reads earlier = absurd means
+refused_board T law command top texts (unread.Refused (refusal.Events fault)) means reads earlier = absurd means
 refused_board T law command top texts unread.NoMemory means reads earlier = tt
+
+-- ## Groups
 
 module _ (command : Command) (top : List ℕ) (texts : Texts) (p : Parts) (first : FirstSay top texts p) (ranked : IsRanked p) where
   pub before_groups : EarlierAreRead command top texts Groups
@@ -105,11 +130,82 @@ module _ (command : Command) (top : List ℕ) (texts : Texts) (p : Parts) (first
   before_groups Opening reads early = absurd (omega (arith, early))
   before_groups Events reads early = absurd (omega (arith, early))
 
-module _ (command : Command) (top : List ℕ) (texts : Texts) (p : Parts) (says : DesignSays top texts p) where
+module _ (lexed : reading.EachTextHasOneAnswer) (trees : HasOneTree) (apart : designs.TreesTellDesignsApart) (grouped : groups.EachTextHasOneAnswer) (command : Command) (top : List ℕ) (texts : Texts) where
+  -- groups are refused where all before them are read
+  pub refused_groups : {Y : Type 0} (T : Y → Type 0) (p : Parts) (why : Unread)
+      → GroupsMean p (texts Groups) (Err why) → SaysDesign top (texts Design) p → Reads command Groups → EarlierAreRead command top texts Groups → AllMean command top texts T (Err why)
+  refused_groups T p (unread.Refused (refusal.Groups fault)) means design reads earlier =
+      let faulty : GroupsAreFaulty top texts fault = record { design = p; says = design; holds = means } in
+      (faulty, record { reads = reads; later = omega arith; here = groups_unread lexed trees apart grouped top texts command fault faulty; earlier = earlier })
+  refused_groups T p (unread.Refused (refusal.Faulty fault)) means design reads earlier = absurd means
+  refused_groups T p (unread.Refused (refusal.Cells fault)) means design reads earlier = absurd means
+  refused_groups T p (unread.Refused (refusal.Cycle names)) means design reads earlier = absurd means
+  refused_groups T p (unread.Refused (refusal.Board fault)) means design reads earlier = absurd means
+  refused_groups T p (unread.Refused (refusal.Opening fault)) means design reads earlier = absurd means
+  refused_groups T p (unread.Refused (refusal.Events fault)) means design reads earlier = absurd means
+  refused_groups T p (unread.Refused (refusal.NotYet what)) means design reads earlier = absurd means
+  refused_groups T p unread.NoMemory means design reads earlier = tt
+
+  -- a command that judges takes no groups
+  takes_none : (c : Command) → Judges c → (v : InputGroups) → TakesGroups c v → v.groups ≡ []
+  takes_none Check judges v takes = takes
+  takes_none Settle judges v takes = absurd judges
+  takes_none Replay judges v takes = takes
+
+  -- some are refused by it where all before them are read
+  pub refused_some : (p : Parts) (v : InputGroups) → Judges command → SaysDesign top (texts Design) p → SaysGroups p (texts Groups) v → (v.groups ≡ [] → ⊥) → Reads command Groups → EarlierAreRead command top texts Groups
+      → NotYetMeans command top texts Groups
+  refused_some p v judges design says never reads earlier =
+      let some : OfDesign top texts (HasSomeGroups texts) = record { design = p; says = design; holds = (v, says, never) } in
+      (some, record { reads = reads; later = omega arith; here = some_unread lexed trees apart grouped top texts command (takes_none command judges) some; earlier = earlier })
+
+  -- an opening is refused where all before it are read
+  pub refused_opening : {Y : Type 0} (T : Y → Type 0) → EachOpeningHasOneAnswer → (p : Parts) (why : Unread)
+      → OpeningMeans p (texts Opening) (Err why) → SaysDesign top (texts Design) p → Reads command Opening → EarlierAreRead command top texts Opening → AllMean command top texts T (Err why)
+  refused_opening T law p (unread.Refused (refusal.Opening fault)) means design reads earlier =
+      let faulty : OpeningIsFaulty top texts fault = record { design = p; says = design; holds = means } in
+      (faulty, record { reads = reads; later = omega arith; here = opening_unread lexed trees apart grouped top texts law command fault faulty; earlier = earlier })
+  refused_opening T law p (unread.Refused (refusal.Faulty fault)) means design reads earlier = absurd means
+  refused_opening T law p (unread.Refused (refusal.Cells fault)) means design reads earlier = absurd means
+  refused_opening T law p (unread.Refused (refusal.Cycle names)) means design reads earlier = absurd means
+  refused_opening T law p (unread.Refused (refusal.Groups fault)) means design reads earlier = absurd means
+  refused_opening T law p (unread.Refused (refusal.Board fault)) means design reads earlier = absurd means
+  refused_opening T law p (unread.Refused (refusal.Events fault)) means design reads earlier = absurd means
+  refused_opening T law p (unread.Refused (refusal.NotYet what)) means design reads earlier = absurd means
+  refused_opening T law p unread.NoMemory means design reads earlier = tt
+
+  -- so are events
+  pub refused_events : {Y : Type 0} (T : Y → Type 0) → EachRecordingHasOneAnswer → (p : Parts) (v : InputGroups) (why : Unread)
+      → EventsMean v p (texts Events) (Err why) → SaysDesign top (texts Design) p → SaysGroups p (texts Groups) v → Reads command Events → EarlierAreRead command top texts Events
+      → AllMean command top texts T (Err why)
+  refused_events T law p v (unread.Refused (refusal.Events fault)) means design says reads earlier =
+      let faulty : EventsAreFaulty top texts fault = record { design = p; says = design; holds = (v, says, means) } in
+      (faulty, record { reads = reads; later = omega arith; here = events_unread lexed trees apart grouped top texts law command fault faulty; earlier = earlier })
+  refused_events T law p v (unread.Refused (refusal.Faulty fault)) means design says reads earlier = absurd means
+  refused_events T law p v (unread.Refused (refusal.Cells fault)) means design says reads earlier = absurd means
+  refused_events T law p v (unread.Refused (refusal.Cycle names)) means design says reads earlier = absurd means
+  refused_events T law p v (unread.Refused (refusal.Groups fault)) means design says reads earlier = absurd means
+  refused_events T law p v (unread.Refused (refusal.Board fault)) means design says reads earlier = absurd means
+  refused_events T law p v (unread.Refused (refusal.Opening fault)) means design says reads earlier = absurd means
+  refused_events T law p v (unread.Refused (refusal.NotYet what)) means design says reads earlier = absurd means
+  refused_events T law p v unread.NoMemory means design says reads earlier = tt
+
+-- ## The texts before each
+
+-- every command takes no groups
+no_groups_taken : (command : Command) (v : InputGroups) → v.groups ≡ [] → TakesGroups command v
+no_groups_taken Check v none = none
+no_groups_taken Settle v none = tt
+no_groups_taken Replay v none = none
+
+module _ (command : Command) (top : List ℕ) (texts : Texts) (p : Parts) (says : PlainSays top texts p) where
+  plain_groups : IsRead command top texts Groups
+  plain_groups = record { design = p; says = says.first.design; holds = (says.groups, says.first.groups, no_groups_taken command says.groups says.none) }
+
   pub before_board : EarlierAreRead command top texts Board
-  before_board Design reads early = (p, says.design, says.ranked)
-  before_board Cells reads early = says.cells
-  before_board Groups reads early = says.groups
+  before_board Design reads early = (p, says.first.design, says.first.ranked)
+  before_board Cells reads early = says.first.cells
+  before_board Groups reads early = plain_groups
   before_board Board reads early = absurd (omega (arith, early))
   before_board Netlist reads early = absurd (omega (arith, early))
   before_board ScheduleText reads early = absurd (omega (arith, early))
@@ -119,9 +215,9 @@ module _ (command : Command) (top : List ℕ) (texts : Texts) (p : Parts) (says 
 
 module _ (command : Command) (top : List ℕ) (texts : Texts) (p : Parts) (one : OneChip) (board : BoardSays top texts p one) where
   pub before_netlist : EarlierAreRead command top texts Netlist
-  before_netlist Design reads early = (p, board.first.design, board.first.ranked)
-  before_netlist Cells reads early = board.first.cells
-  before_netlist Groups reads early = board.first.groups
+  before_netlist Design reads early = before_board command top texts p board.plain Design reads (omega arith)
+  before_netlist Cells reads early = before_board command top texts p board.plain Cells reads (omega arith)
+  before_netlist Groups reads early = before_board command top texts p board.plain Groups reads (omega arith)
   before_netlist Board reads early = (one, board.board)
   before_netlist Netlist reads early = absurd (omega (arith, early))
   before_netlist ScheduleText reads early = absurd (omega (arith, early))
@@ -130,35 +226,59 @@ module _ (command : Command) (top : List ℕ) (texts : Texts) (p : Parts) (one :
   before_netlist Events reads early = absurd (omega (arith, early))
 
   pub before_schedule : (chip : Chip) → SaysNetlist (texts Netlist) chip → EarlierAreRead command top texts ScheduleText
-  before_schedule chip netlist Design reads early = (p, board.first.design, board.first.ranked)
-  before_schedule chip netlist Cells reads early = board.first.cells
-  before_schedule chip netlist Groups reads early = board.first.groups
-  before_schedule chip netlist Board reads early = (one, board.board)
+  before_schedule chip netlist Design reads early = before_netlist Design reads (omega arith)
+  before_schedule chip netlist Cells reads early = before_netlist Cells reads (omega arith)
+  before_schedule chip netlist Groups reads early = before_netlist Groups reads (omega arith)
+  before_schedule chip netlist Board reads early = before_netlist Board reads (omega arith)
   before_schedule chip netlist Netlist reads early = (chip, netlist)
   before_schedule chip netlist ScheduleText reads early = absurd (omega (arith, early))
   before_schedule chip netlist Map reads early = absurd (omega (arith, early))
   before_schedule chip netlist Opening reads early = absurd (omega (arith, early))
   before_schedule chip netlist Events reads early = absurd (omega (arith, early))
 
-  pub before_map : (chip : Chip) (schedule : Schedule) → SaysNetlist (texts Netlist) chip → SaysSchedule (texts ScheduleText) schedule → EarlierAreRead command top texts Map
-  before_map chip schedule netlist says Design reads early = (p, board.first.design, board.first.ranked)
-  before_map chip schedule netlist says Cells reads early = board.first.cells
-  before_map chip schedule netlist says Groups reads early = board.first.groups
-  before_map chip schedule netlist says Board reads early = (one, board.board)
+  pub before_map : (chip : Chip) (schedule : Schedule) → SaysNetlist (texts Netlist) chip → SaysShortSchedule (texts ScheduleText) schedule → EarlierAreRead command top texts Map
+  before_map chip schedule netlist says Design reads early = before_netlist Design reads (omega arith)
+  before_map chip schedule netlist says Cells reads early = before_netlist Cells reads (omega arith)
+  before_map chip schedule netlist says Groups reads early = before_netlist Groups reads (omega arith)
+  before_map chip schedule netlist says Board reads early = before_netlist Board reads (omega arith)
   before_map chip schedule netlist says Netlist reads early = (chip, netlist)
   before_map chip schedule netlist says ScheduleText reads early = (schedule, says)
   before_map chip schedule netlist says Map reads early = absurd (omega (arith, early))
   before_map chip schedule netlist says Opening reads early = absurd (omega (arith, early))
   before_map chip schedule netlist says Events reads early = absurd (omega (arith, early))
 
--- an event text is refused as the first where all before it are read, the opening with them
-pub before_events : (command : Command) (top : List ℕ) (texts : Texts) (p : Parts) (values : List PortBit) → SaysDesign top (texts Design) p → SaysOpening p.inputs (texts Opening) values → EarlierAreRead command top texts Opening → EarlierAreRead command top texts Events
-before_events command top texts p values design opening before Design reads early = before Design reads (omega arith)
-before_events command top texts p values design opening before Cells reads early = before Cells reads (omega arith)
-before_events command top texts p values design opening before Groups reads early = before Groups reads (omega arith)
-before_events command top texts p values design opening before Board reads early = before Board reads (omega arith)
-before_events command top texts p values design opening before Netlist reads early = before Netlist reads (omega arith)
-before_events command top texts p values design opening before ScheduleText reads early = before ScheduleText reads (omega arith)
-before_events command top texts p values design opening before Map reads early = before Map reads (omega arith)
-before_events command top texts p values design opening before Opening reads early = (p, values, design, opening)
-before_events command top texts p values design opening before Events reads early = absurd (omega (arith, early))
+-- an opening of results comes behind all of these
+pub before_opening : (top : List ℕ) (texts : Texts) (p : Parts) (one : OneChip) (results : Results) → BoardSays top texts p one → ResultsSay texts results → EarlierAreRead Replay top texts Opening
+before_opening top texts p one results board say Design reads early = before_netlist Replay top texts p one board Design reads (omega arith)
+before_opening top texts p one results board say Cells reads early = before_netlist Replay top texts p one board Cells reads (omega arith)
+before_opening top texts p one results board say Groups reads early = before_netlist Replay top texts p one board Groups reads (omega arith)
+before_opening top texts p one results board say Board reads early = (one, board.board)
+before_opening top texts p one results board say Netlist reads early = (say.chip, say.says_netlist)
+before_opening top texts p one results board say ScheduleText reads early = (say.schedule, say.says_schedule)
+before_opening top texts p one results board say Map reads early = (say.chip, say.map, say.says_netlist, say.says_map)
+before_opening top texts p one results board say Opening reads early = absurd (omega (arith, early))
+before_opening top texts p one results board say Events reads early = absurd (omega (arith, early))
+
+-- one of the original comes behind its groups, which may be any
+pub before_settling : (top : List ℕ) (texts : Texts) (p : Parts) (v : InputGroups) → DesignSays top texts p v → EarlierAreRead Settle top texts Opening
+before_settling top texts p v says Design reads early = (p, says.design, says.ranked)
+before_settling top texts p v says Cells reads early = says.cells
+before_settling top texts p v says Groups reads early = record { design = p; says = says.design; holds = (v, says.groups, tt) }
+before_settling top texts p v says Board reads early = absurd (omega (arith, reads))
+before_settling top texts p v says Netlist reads early = absurd (omega (arith, reads))
+before_settling top texts p v says ScheduleText reads early = absurd (omega (arith, reads))
+before_settling top texts p v says Map reads early = absurd (omega (arith, reads))
+before_settling top texts p v says Opening reads early = absurd (omega (arith, early))
+before_settling top texts p v says Events reads early = absurd (omega (arith, early))
+
+-- events come behind the opening
+pub before_events : (command : Command) (top : List ℕ) (texts : Texts) (p : Parts) (o : opened.Opening) → SaysDesign top (texts Design) p → SaysOpening p (texts Opening) o → EarlierAreRead command top texts Opening → EarlierAreRead command top texts Events
+before_events command top texts p o design opening before Design reads early = before Design reads (omega arith)
+before_events command top texts p o design opening before Cells reads early = before Cells reads (omega arith)
+before_events command top texts p o design opening before Groups reads early = before Groups reads (omega arith)
+before_events command top texts p o design opening before Board reads early = before Board reads (omega arith)
+before_events command top texts p o design opening before Netlist reads early = before Netlist reads (omega arith)
+before_events command top texts p o design opening before ScheduleText reads early = before ScheduleText reads (omega arith)
+before_events command top texts p o design opening before Map reads early = before Map reads (omega arith)
+before_events command top texts p o design opening before Opening reads early = record { design = p; says = design; holds = (o, opening) }
+before_events command top texts p o design opening before Events reads early = absurd (omega (arith, early))

@@ -3,7 +3,9 @@ use Rattle.std.proofs.Common.{ℕ, ◌≡◌, ◌<◌, ◌≤◌, ◌↔◌, Boo
 use Rattle.std.specs.Prelude.{nat_lt}
 use Rattle.std.proofs.lemmas.Bool.{ltb-true, ltb-false}
 use Rattle.design_core.specs.declared.node.NodeId.{NodeId}
-use Rattle.emu_machine.specs.Acceptance.{Case, Rule, A1, A2, A3, A4, A5, A6, A7, A8, A9, A10, A11, A12, Holds, IsAccepted, rule_number}
+use Rattle.emu_machine.specs.declared.rule.Rule.{Rule}
+use Rattle.emu_machine.specs.declared.rule.Rule.TheVariants.{A1, A2, A3, A4, A5, A6, A7, A8, A9, A10, A11, A12}
+use Rattle.emu_machine.specs.Acceptance.{Case, Holds, IsAccepted, rule_number}
 use Rattle.schedule_check.specs.Verdict.{FailsFirst}
 use Rattle.emu_app.specs.Runs.{CanReplay}
 

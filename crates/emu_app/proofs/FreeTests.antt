@@ -6,7 +6,9 @@ use Rattle.design_core.specs.Influence.{Group, all_groups, IsReached}
 use Rattle.emu_machine.specs.declared.place.Place.{Place}
 use Rattle.emu_machine.specs.declared.place.Place.TheVariants.{Chips, Gate, Weight, Frame, Action, Again, Register, Memory, Input, Element, Output, EndRegister, EndMemory, EndRead}
 use Rattle.emu_machine.specs.declared.schedule.Frame.{Frame as FrameOf}
-use Rattle.emu_machine.specs.Acceptance.{Case, Rule, A1, A2, A3, A4, A5, A6, A7, A8, A9, A10, A11, A12, Influences, Holds, IsAccepted, FailsA10, FailsA11, frame_differs, has_frame, sends_inside, fails_test}
+use Rattle.emu_machine.specs.declared.rule.Rule.{Rule}
+use Rattle.emu_machine.specs.declared.rule.Rule.TheVariants.{A1, A2, A3, A4, A5, A6, A7, A8, A9, A10, A11, A12}
+use Rattle.emu_machine.specs.Acceptance.{Case, Influences, Holds, IsAccepted, FailsA10, FailsA11, frame_differs, has_frame, sends_inside, fails_test}
 use Rattle.schedule_check.specs.Verdict.{FailsFirst}
 
 -- functions that are the same at each place are the same

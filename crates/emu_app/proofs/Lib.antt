@@ -1,6 +1,7 @@
 pub mod Fetches
 pub mod Readings
 pub mod OneCases
+pub mod PlainChips
 pub mod FirstUnread
 pub mod Recordings
 mod Agreeing

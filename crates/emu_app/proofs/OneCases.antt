@@ -11,8 +11,8 @@ use Rattle.board_model.specs.Answers as boards
 use Rattle.emu_machine.specs.declared.netlist.Chip.{Chip}
 use Rattle.emu_machine.specs.declared.schedule.Schedule.{Schedule}
 use Rattle.emu_machine.specs.declared.map.StateMap.{StateMap}
-use Rattle.emu_machine.specs.declared.results.Results.{Results}
-use Rattle.emu_machine.specs.Law.{IsCase, MapFits}
+use Rattle.emu_machine.specs.Law.{IsCase}
+use Rattle.emu_machine.specs.Results.{MapFits, Results, ResultsStand}
 use Rattle.emu_machine.specs.Netlist.{IsNetlist}
 use Rattle.emu_machine.specs.Acceptance.{Case}
 use Rattle.result_files.specs.PlainNetlist as netlists
@@ -22,7 +22,7 @@ use Rattle.schedule_check.specs.Verdict.{plain_case}
 use Rattle.emu_app.specs.declared.what.What.TheVariants.{Design, Board, Netlist, Schedule as ScheduleText, Map}
 use Rattle.emu_app.specs.declared.plan_texts.OneChip.{OneChip}
 use Rattle.emu_app.specs.Fetching.{Texts}
-use Rattle.emu_app.specs.Forms.{SaysDesign, SaysBoard, SaysNetlist}
+use Rattle.emu_app.specs.Forms.{SaysDesign, SaysBoard, SaysNetlist, SaysShortSchedule}
 use Rattle.emu_app.specs.Reading.{BoardSays, ResultsSay, StandFor, StandForOne, TextsTellCasesApart, case_of}
 use Rattle.emu_app.proofs.Readings.{tokens_once, one_tree, one_plan, one_chip_plan}
 
@@ -59,7 +59,7 @@ pub same_results : reading.EachTextHasOneAnswer → netlists.TextsTellChipsApart
     → (texts : Texts) (a b : Results) → ResultsSay texts a → ResultsSay texts b → a ≡ b
 same_results tokens netlists-apart schedules-apart maps-apart texts a b say-a say-b =
     let n : say-b.chip ≡ say-a.chip = one_netlist tokens netlists-apart (texts Netlist) say-b.chip say-a.chip say-b.says_netlist say-a.says_netlist in
-    let s : say-a.schedule ≡ say-b.schedule = schedules-apart (texts ScheduleText) say-a.schedule say-b.schedule say-a.says_schedule say-b.says_schedule in
+    let s : say-a.schedule ≡ say-b.schedule = schedules-apart (texts ScheduleText) say-a.schedule say-b.schedule say-a.says_schedule.says say-b.says_schedule.says in
     let m : say-a.map ≡ say-b.map =
     maps-apart (texts Map) say-a.chip say-a.map say-b.map say-a.says_map (subst (λ c. maps.SaysMap (texts Map) c say-b.map) n say-b.says_map) in
     say-a.is
@@ -72,7 +72,7 @@ same_results tokens netlists-apart schedules-apart maps-apart texts a b say-a sa
 pub one_case : reading.EachTextHasOneAnswer → HasOneTree → designs.TreesTellDesignsApart → boards.EachTextHasOneAnswer → netlists.TextsTellChipsApart → schedules.TextsTellSchedulesApart → maps.TextsTellMapsApart
     → (top : List ℕ) (texts : Texts) (c d : Case) → StandFor top texts c → StandFor top texts d → d ≡ c
 one_case tokens trees designs-apart boards-law netlists-apart schedules-apart maps-apart top texts c d sc sd =
-    let design : sd.design ≡ sc.design = one_design tokens trees designs-apart top (texts Design) sd.design sc.design sd.board_says.first.design sc.board_says.first.design in
+    let design : sd.design ≡ sc.design = one_design tokens trees designs-apart top (texts Design) sd.design sc.design sd.board_says.plain.first.design sc.board_says.plain.first.design in
     let room : sd.chip.room ≡ sc.chip.room = same_room boards-law (texts Board) sd.chip sc.chip sd.board_says.board sc.board_says.board in
     let slots : sd.chip.slots ≡ sc.chip.slots = same_slots boards-law (texts Board) sd.chip sc.chip sd.board_says.board sc.board_says.board in
     let results : sd.results ≡ sc.results = same_results tokens netlists-apart schedules-apart maps-apart texts sd.results sc.results sd.results_say sc.results_say in
@@ -85,7 +85,7 @@ one_case tokens trees designs-apart boards-law netlists-apart schedules-apart ma
 
 -- the design of a case is the one that the texts say
 pub case_design : (top : List ℕ) (texts : Texts) (c : Case) → StandFor top texts c → SaysDesign top (texts Design) c.design
-case_design top texts c s = subst (λ (x : Case). SaysDesign top (texts Design) x.design) (sym s.is) s.board_says.first.design
+case_design top texts c s = subst (λ (x : Case). SaysDesign top (texts Design) x.design) (sym s.is) s.board_says.plain.first.design
 
 -- what the texts say makes a case, and no other
 pub reads_case : (top : List ℕ) (texts : Texts) (p : Parts) (chip : OneChip) (results : Results) → BoardSays top texts p chip → ResultsSay texts results → TextsTellCasesApart → StandForOne top texts (case_of p chip results)
@@ -93,10 +93,9 @@ reads_case top texts p chip results says say apart =
     let stand : StandFor top texts (case_of p chip results) = record { design = p; chip = chip; results = results; board_says = says; results_say = say; is = refl } in
     record { stand = stand; one = λ other stands. apart top texts (case_of p chip results) other stand stands }
 
--- the map and the netlist of results that texts say are right in themselves
-pub results_stand : (texts : Texts) (results : Results) → ResultsSay texts results → MapFits results × IsNetlist results.net
-results_stand texts results say =
-    subst (λ r. MapFits r × IsNetlist r.net) (sym say.is) (say.says_map.fits say.schedule, say.says_netlist.writes.driven)
+-- what texts say makes results that stand
+pub results_stand : (texts : Texts) (chip : Chip) (schedule : Schedule) (map : StateMap) → maps.SaysMap (texts Map) chip map → SaysShortSchedule (texts ScheduleText) schedule → ResultsStand (results_of chip schedule map)
+results_stand texts chip schedule map says-map says-schedule = record { mapped = says-map.fits schedule; slots = says-schedule.short }
 
 -- such a case stands
 pub is_case : (p : Parts) (chip : OneChip) (results : Results) → IsDesign p → IsRanked p → MapFits results → IsNetlist results.net → IsCase (case_of p chip results)

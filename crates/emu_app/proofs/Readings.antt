@@ -22,17 +22,37 @@ use Rattle.cell_table.specs.declared.cell.Cell.{Cell}
 use Rattle.cell_table.specs.declared.fault.CellFault.{CellFault}
 use Rattle.cell_table.specs.declared.fault.CellFault.TheVariants as cell
 use Rattle.cell_table.specs.Table as tables
+use Rattle.domain_groups.specs.declared.events.EventFault.{EventFault}
+use Rattle.domain_groups.specs.declared.events.EventFault.TheVariants as event
+use Rattle.domain_groups.specs.declared.fault.GroupFault.{GroupFault}
+use Rattle.domain_groups.specs.declared.fault.GroupFault.TheVariants as group
+use Rattle.domain_groups.specs.declared.openings.OpeningFault.{OpeningFault}
+use Rattle.domain_groups.specs.declared.openings.OpeningFault.TheVariants as opened
+use Rattle.domain_groups.specs.Answers as groups
+use Rattle.domain_groups.specs.Events.{EachRecordingHasOneAnswer, SaysEvents}
+use Rattle.domain_groups.specs.Groups.{InputGroups}
+use Rattle.domain_groups.specs.Openings.{EachOpeningHasOneAnswer, PlainOpening, StandsForOpening}
+use Rattle.design_core.specs.declared.values.Event.{Event}
 use Rattle.emu_machine.specs.declared.netlist.Chip.{Chip}
+use Rattle.emu_machine.specs.declared.schedule.Schedule.{Schedule}
+use Rattle.emu_machine.specs.Results.{SlotsFit}
 use Rattle.result_files.specs.PlainNetlist.{SaysChip}
+use Rattle.result_files.specs.PlainSchedule.{SaysSchedule, TextsTellSchedulesApart}
 use Rattle.emu_app.specs.declared.refusal.BoardsFault.{BoardsFault}
 use Rattle.emu_app.specs.declared.refusal.BoardsFault.TheVariants as told
 use Rattle.emu_app.specs.declared.refusal.CellsFault.{CellsFault}
 use Rattle.emu_app.specs.declared.refusal.CellsFault.TheVariants as cells
+use Rattle.emu_app.specs.declared.refusal.EventsFault.{EventsFault}
+use Rattle.emu_app.specs.declared.refusal.EventsFault.TheVariants as events_told
+use Rattle.emu_app.specs.declared.refusal.GroupsFault.{GroupsFault}
+use Rattle.emu_app.specs.declared.refusal.GroupsFault.TheVariants as groups_told
+use Rattle.emu_app.specs.declared.refusal.OpeningsFault.{OpeningsFault}
+use Rattle.emu_app.specs.declared.refusal.OpeningsFault.TheVariants as opening_told
 use Rattle.emu_app.specs.declared.refusal.Refusal.TheVariants as refusal
 use Rattle.emu_app.specs.declared.refusal.Unread.TheVariants as unread
 use Rattle.emu_app.specs.declared.what.What.TheVariants.{Design}
-use Rattle.emu_app.specs.Faults.{HasBoardFault, HasCellsFault, HasNoTree, board_fault_of, board_refusal, byte_of, cell_fault_of, cells_refusal, lex_refusal, parse_refusal}
-use Rattle.emu_app.specs.Forms.{AreTokens, HasCells, IsTreeOf, SaysBoard, SaysDesign, SaysNetlist, SaysOtherBoard, plan_of}
+use Rattle.emu_app.specs.Faults.{HasBoardFault, HasCellsFault, HasEventsFault, HasGroupsFault, HasNoTree, HasOpeningFault, board_fault_of, board_refusal, byte_of, cell_fault_of, cells_refusal, event_fault_of, group_fault_of, lex_refusal, opening_fault_of, parse_refusal}
+use Rattle.emu_app.specs.Forms.{AreTokens, HasCells, IsTreeOf, SaysBoard, SaysDesign, SaysGroups, SaysNetlist, SaysOtherBoard, SaysShortSchedule, plan_of}
 use Rattle.emu_app.specs.Reading.{BoardMeans, CellsMean, DesignMeans, NoneSaid, TreeMeans}
 
 -- two answers of one text are the same
@@ -118,6 +138,14 @@ no_netlist law text tokens are never netlist says =
 -- a text without tokens writes down no netlist
 pub no_netlist_tokens : reading.EachTextHasOneAnswer → (text : List ℕ) (fault : LexFault) → reading.Answers text (Err fault) → (fault ≡ lex.NoMemory → ⊥) → NoneSaid (SaysNetlist text)
 no_netlist_tokens law text fault answers apart netlist says = no_tokens law text fault answers apart says.tokens says.are_tokens
+
+-- a text whose schedule has too long a slot says no short one
+pub no_short : TextsTellSchedulesApart → (text : List ℕ) (schedule : Schedule) → SaysSchedule text schedule → (SlotsFit schedule → ⊥) → NoneSaid (SaysShortSchedule text)
+no_short law text schedule says long other short = long (subst SlotsFit (law text other schedule short.says says) short.short)
+
+-- neither does one that says none
+pub no_schedule : (text : List ℕ) → NoneSaid (SaysSchedule text) → NoneSaid (SaysShortSchedule text)
+no_schedule text none schedule short = none schedule short.says
 
 -- a plan of one chip and no wire, by its numbers
 abbrev pub one_chip_plan : ℕ → ℕ → BoardPlan
@@ -212,4 +240,100 @@ no_table law text fault stands has =
     let left-kept : left ≢ memory = λ e. no_cell_memory fault cc in
     let right-kept : right ≢ memory = λ e. cc in
     let same : left ≡ right = law text left right left-kept right-kept stands has.stands in
+    cc
+
+-- ## Groups
+
+no_group_memory : (fault : GroupsFault) → group_fault_of fault ≡ group.NoMemory → ⊥
+no_group_memory groups_told.NotJson same = cc
+no_group_memory groups_told.BadShape same = cc
+no_group_memory groups_told.Limit same = cc
+no_group_memory (groups_told.NameTaken number) same = cc
+no_group_memory (groups_told.EmptyGroup number) same = cc
+no_group_memory (groups_told.NoPort number) same = cc
+no_group_memory (groups_told.PortTwice number) same = cc
+
+-- a text with a fault stands for no groups
+pub no_groups : groups.EachTextHasOneAnswer → (p : Parts) (text : List ℕ) (fault : GroupsFault) → HasGroupsFault p text fault → NoneSaid (SaysGroups p text)
+no_groups law p text fault answers v says =
+    let left : Result InputGroups GroupFault = Err (group_fault_of fault) in
+    let right : Result InputGroups GroupFault = Ok v in
+    let memory : Result InputGroups GroupFault = Err group.NoMemory in
+    let left-kept : left ≢ memory = λ e. no_group_memory fault cc in
+    let right-kept : right ≢ memory = λ e. cc in
+    let same : left ≡ right = law p text left right left-kept right-kept answers says in
+    cc
+
+-- a text stands for one list of groups
+pub one_groups : groups.EachTextHasOneAnswer → (p : Parts) (text : List ℕ) (v w : InputGroups) → SaysGroups p text v → SaysGroups p text w → v ≡ w
+one_groups law p text v w says also =
+    let left : Result InputGroups GroupFault = Ok v in
+    let right : Result InputGroups GroupFault = Ok w in
+    let memory : Result InputGroups GroupFault = Err group.NoMemory in
+    let left-kept : left ≢ memory = λ e. cc in
+    let right-kept : right ≢ memory = λ e. cc in
+    let same : left ≡ right = law p text left right left-kept right-kept says also in
+    cc
+
+-- ## Openings
+
+no_opening_memory : (fault : OpeningsFault) → opening_fault_of fault ≡ opened.NoMemory → ⊥
+no_opening_memory opening_told.NotJson same = cc
+no_opening_memory opening_told.BadShape same = cc
+no_opening_memory (opening_told.NoPort name) same = cc
+no_opening_memory (opening_told.BadValue name) same = cc
+no_opening_memory (opening_told.NoState path) same = cc
+no_opening_memory (opening_told.NoWord path) same = cc
+
+-- a text with a fault stands for no opening
+pub no_plain_opening : EachOpeningHasOneAnswer → (p : Parts) (text : List ℕ) (fault : OpeningsFault) → HasOpeningFault p text fault → NoneSaid (StandsForOpening p text)
+no_plain_opening law p text fault answers o stands =
+    let left : Result PlainOpening OpeningFault = Err (opening_fault_of fault) in
+    let right : Result PlainOpening OpeningFault = Ok o in
+    let memory : Result PlainOpening OpeningFault = Err opened.NoMemory in
+    let left-kept : left ≢ memory = λ e. no_opening_memory fault cc in
+    let right-kept : right ≢ memory = λ e. cc in
+    let same : left ≡ right = law p text left right left-kept right-kept answers stands in
+    cc
+
+-- a text stands for one opening
+pub one_plain_opening : EachOpeningHasOneAnswer → (p : Parts) (text : List ℕ) (a b : PlainOpening) → StandsForOpening p text a → StandsForOpening p text b → a ≡ b
+one_plain_opening law p text a b stands also =
+    let left : Result PlainOpening OpeningFault = Ok a in
+    let right : Result PlainOpening OpeningFault = Ok b in
+    let memory : Result PlainOpening OpeningFault = Err opened.NoMemory in
+    let left-kept : left ≢ memory = λ e. cc in
+    let right-kept : right ≢ memory = λ e. cc in
+    let same : left ≡ right = law p text left right left-kept right-kept stands also in
+    cc
+
+-- ## Events
+
+no_event_memory : (fault : EventsFault) → event_fault_of fault ≡ event.NoMemory → ⊥
+no_event_memory (events_told.BadLine line) same = cc
+no_event_memory (events_told.NoGroup line) same = cc
+no_event_memory (events_told.NoPort line) same = cc
+no_event_memory (events_told.PortTwice line) same = cc
+no_event_memory (events_told.BadValue line) same = cc
+
+-- a text with a fault tells no events
+pub no_events : EachRecordingHasOneAnswer → (v : InputGroups) (p : Parts) (text : List ℕ) (fault : EventsFault) → HasEventsFault v p text fault → NoneSaid (SaysEvents v p.inputs text)
+no_events law v p text fault answers events says =
+    let left : Result (List Event) EventFault = Err (event_fault_of fault) in
+    let right : Result (List Event) EventFault = Ok events in
+    let memory : Result (List Event) EventFault = Err event.NoMemory in
+    let left-kept : left ≢ memory = λ e. no_event_memory fault cc in
+    let right-kept : right ≢ memory = λ e. cc in
+    let same : left ≡ right = law v p.inputs text left right left-kept right-kept answers says in
+    cc
+
+-- a text tells one list of events
+pub one_events : EachRecordingHasOneAnswer → (v : InputGroups) (p : Parts) (text : List ℕ) (a b : List Event) → SaysEvents v p.inputs text a → SaysEvents v p.inputs text b → a ≡ b
+one_events law v p text a b says also =
+    let left : Result (List Event) EventFault = Ok a in
+    let right : Result (List Event) EventFault = Ok b in
+    let memory : Result (List Event) EventFault = Err event.NoMemory in
+    let left-kept : left ≢ memory = λ e. cc in
+    let right-kept : right ≢ memory = λ e. cc in
+    let same : left ≡ right = law v p.inputs text left right left-kept right-kept says also in
     cc

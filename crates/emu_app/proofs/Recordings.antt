@@ -1,67 +1,110 @@
--- That texts stand for one recording of a design at most, and what holds of one that is read.
-use Rattle.std.proofs.Common.{ℕ, zero, suc, ◌≡◌, ◌<◌, List, [], ◌∷◌, length, Contains, ◌∙◌, ap, subst, arith}
-use Rattle.std.specs.Prelude.{slice_index_or}
-use Rattle.std.specs.List.{AllZip}
+-- That texts stand for one recording of a design at most, and what faults of a recording exclude.
+use Rattle.std.proofs.Common.{ℕ, ◌≡◌, ◌≢◌, List, [], ◌∷◌, map, ◌∙◌, refl, sym, ap, subst}
+use Rattle.id_arena.specs.declared.keys.ElemId.{ElemId}
+use Rattle.id_arena.specs.declared.keys.MemId.{MemId}
 use Rattle.verilog_lex.specs.Reads as reading
 use Rattle.verilog_tree.specs.Laws.{HasOneTree}
 use Rattle.design_core.specs.declared.parts.Parts.{Parts}
-use Rattle.design_core.specs.declared.parts.Port.{Port}
 use Rattle.design_core.specs.declared.values.Event.{Event}
 use Rattle.design_core.specs.declared.values.PortBit.{PortBit}
+use Rattle.domain_groups.specs.Answers as groups
+use Rattle.domain_groups.specs.Events.{EachRecordingHasOneAnswer, SaysEvents}
+use Rattle.domain_groups.specs.Groups.{InputGroups}
+use Rattle.domain_groups.specs.Openings.{EachOpeningHasOneAnswer, PlainOpening, PlainWord}
 use Rattle.elaborator.specs.GateDesign as designs
-use Rattle.event_replay.specs.Events.{SaysEvents, TellsEvent, TextsTellEventsApart}
-use Rattle.event_replay.specs.Lines.{event_lines}
-use Rattle.event_replay.specs.Openings.{SaysOpening, TextsTellOpeningsApart}
-use Rattle.event_replay.specs.Settings.{AreInputBits}
+use Rattle.event_replay.specs.Opened.{plain, plain_word_of}
+use Rattle.settled_model.specs.declared.opening.OpenWord.{OpenWord}
+use Rattle.settled_model.specs.declared.opening.Opening as opened
 use Rattle.emu_app.specs.declared.recording.Recording.{Recording}
-use Rattle.emu_app.specs.declared.what.What.TheVariants.{Design, Opening, Events}
+use Rattle.emu_app.specs.declared.refusal.EventsFault.{EventsFault}
+use Rattle.emu_app.specs.declared.refusal.GroupsFault.{GroupsFault}
+use Rattle.emu_app.specs.declared.refusal.OpeningsFault.{OpeningsFault}
+use Rattle.emu_app.specs.declared.command.Command.{Command}
+use Rattle.emu_app.specs.declared.command.Command.TheVariants.{Check, Settle, Replay}
+use Rattle.emu_app.specs.declared.what.What.TheVariants.{Design, Groups, Opening, Events}
 use Rattle.emu_app.specs.Fetching.{Texts}
-use Rattle.emu_app.specs.Forms.{SaysDesign}
-use Rattle.emu_app.specs.Reading.{IsRead, NoneSaid, TextsTellRecordingsApart, TextsTellRunsApart}
-use Rattle.emu_app.specs.Runs.{HasInputBits, RecordingSays}
+use Rattle.emu_app.specs.Forms.{SaysDesign, SaysGroups, SaysOpening}
+use Rattle.emu_app.specs.Reading.{EventsAreFaulty, GroupsAreFaulty, HasSomeGroups, IsRead, OfDesign, OpeningIsFaulty, StandForSettle, TakesGroups, TextsTellRecordingsApart, TextsTellRunsApart}
+use Rattle.emu_app.specs.Runs.{RecordingSays}
 use Rattle.emu_app.proofs.OneCases.{one_design}
+use Rattle.emu_app.proofs.Readings.{no_events, no_groups, no_plain_opening, one_events, one_groups, one_plain_opening}
 
--- where a text gives no opening of the design that is told, it gives none of any
-pub no_opening : reading.EachTextHasOneAnswer → HasOneTree → designs.TreesTellDesignsApart → (top : List ℕ) (texts : Texts) (p : Parts) → SaysDesign top (texts Design) p
-    → NoneSaid (SaysOpening p.inputs (texts Opening)) → IsRead top texts Opening → ⊥
-no_opening law trees apart top texts p says none read =
-    let same : read.0 ≡ p = one_design law trees apart top (texts Design) read.0 p read.2 says in
-    none read.1 (subst (λ (q : Parts). SaysOpening q.inputs (texts Opening) read.1) same read.3)
+-- ## Openings by plain numbers
 
-pub no_events : reading.EachTextHasOneAnswer → HasOneTree → designs.TreesTellDesignsApart → (top : List ℕ) (texts : Texts) (p : Parts) → SaysDesign top (texts Design) p
-    → NoneSaid (SaysEvents p.inputs (texts Events)) → IsRead top texts Events → ⊥
-no_events law trees apart top texts p says none read =
-    let same : read.0 ≡ p = one_design law trees apart top (texts Design) read.0 p read.2 says in
-    none read.1 (subst (λ (q : Parts). SaysEvents q.inputs (texts Events) read.1) same read.3)
+-- lists are the same whose images are, where things are the same whose images are
+same_images : {X Y : Type 0} (f : X → Y) → ((x z : X) → f x ≡ f z → x ≡ z) → (xs zs : List X) → map f xs ≡ map f zs → xs ≡ zs
+same_images f one [] [] same = refl
+same_images f one [] (z ∷ zs) same = absurd (let none : [] ≡ f z ∷ map f zs = same in cc)
+same_images f one (x ∷ xs) [] same = absurd (let none : f x ∷ map f xs ≡ [] = same in cc)
+same_images f one (x ∷ xs) (z ∷ zs) same =
+    let both : f x ∷ map f xs ≡ f z ∷ map f zs = same in
+    let first : f x ≡ f z = cc in
+    let rest : map f xs ≡ map f zs = cc in
+    ap (λ y. y ∷ xs) (one x z first) ∙ ap (λ ys. z ∷ ys) (same_images f one xs zs rest)
 
--- every event that lines tell is of the group of all inputs
-told_group : (ports : List Port) (lines : List (List ℕ)) (events : List Event) → AllZip (TellsEvent ports) lines events → (k : ℕ) (event : Event) → k < length events → slice_index_or events k event ≡ event → event.group.place ≡ 0
-told_group ports [] [] all k event low at = absurd (omega (arith, low))
-told_group ports [] (e ∷ es) all k event low at = absurd all
-told_group ports (line ∷ lines) [] all k event low at = absurd all
-told_group ports (line ∷ lines) (e ∷ es) all zero event low at = subst (λ (x : Event). x.group.place ≡ 0) at all.0.group
-told_group ports (line ∷ lines) (e ∷ es) all (suc k) event low at =
-    let less : suc k < suc (length es) = low in
-    told_group ports lines es all.1 k event (omega (arith, less)) at
+same_element : (a b : ElemId) → a.place ≡ b.place → a ≡ b
+same_element a b same = ap (λ (k : ℕ). record { place = k }) same
 
--- what is read of an opening and of events gives values to input bits, and names the group of all inputs
-pub input_bits : (p : Parts) (text : List ℕ) (inputs : List PortBit) (events : List Event) → AreInputBits p inputs → SaysEvents p.inputs text events
-    → ((event : Event) → Contains events event → AreInputBits p event.values) → HasInputBits p (record { inputs = inputs; events = events })
-input_bits p text inputs events opening says bits =
-    record {
-      opening = opening;
-      events = bits;
-      groups = λ event has. told_group p.inputs (event_lines text) events says has.0 event has.1 has.2;
-    }
+same_word : (a b : OpenWord) → plain_word_of a ≡ plain_word_of b → a ≡ b
+same_word a b same =
+    let mem : a.mem.place ≡ b.mem.place = ap (λ w. w.mem) same in
+    let address : a.address ≡ b.address = ap (λ w. w.address) same in
+    let value : a.value ≡ b.value = ap (λ w. w.value) same in
+    let word : ℕ → ℕ → ℕ → OpenWord = λ m k n. record { mem = record { place = m }; address = k; value = n } in
+    ap (λ m. word m a.address a.value) mem ∙ ap (λ k. word b.mem.place k a.value) address ∙ ap (λ n. word b.mem.place b.address n) value
 
-abbrev pub recorded : List PortBit → List Event → Recording
-recorded inputs events = record { inputs = inputs; events = events }
+-- an opening is told by its plain numbers
+same_opening : (a b : opened.Opening) → plain a ≡ plain b → a ≡ b
+same_opening a b same =
+    let inputs : a.inputs ≡ b.inputs = ap (λ o. o.inputs) same in
+    let ones : a.ones ≡ b.ones = same_images (λ id. id.place) same_element a.ones b.ones (ap (λ o. o.ones) same) in
+    let words : a.words ≡ b.words = same_images plain_word_of same_word a.words b.words (ap (λ o. o.words) same) in
+    let made : List PortBit → List ElemId → List OpenWord → opened.Opening = λ x y z. record { inputs = x; ones = y; words = z } in
+    ap (λ x. made x a.ones a.words) inputs ∙ ap (λ y. made b.inputs y a.words) ones ∙ ap (λ z. made b.inputs b.ones z) words
+
+-- ## What faults exclude
+
+module _ (lexed : reading.EachTextHasOneAnswer) (trees : HasOneTree) (apart : designs.TreesTellDesignsApart) (grouped : groups.EachTextHasOneAnswer) (top : List ℕ) (texts : Texts) where
+  -- where the groups of the design that is told have a fault, those of no design are read
+  pub groups_unread : (command : Command) (fault : GroupsFault) → GroupsAreFaulty top texts fault → IsRead command top texts Groups → ⊥
+  groups_unread command fault faulty read =
+      let same : read.design ≡ faulty.design = one_design lexed trees apart top (texts Design) read.design faulty.design read.says faulty.says in
+      no_groups grouped faulty.design (texts Groups) fault faulty.holds read.holds.0 (subst (λ p. SaysGroups p (texts Groups) read.holds.0) same read.holds.1)
+
+  -- where there are some, a command that judges reads none
+  pub some_unread : (command : Command) → ((v : InputGroups) → TakesGroups command v → v.groups ≡ []) → OfDesign top texts (HasSomeGroups texts) → IsRead command top texts Groups → ⊥
+  some_unread command judges some read =
+      let same : read.design ≡ some.design = one_design lexed trees apart top (texts Design) read.design some.design read.says some.says in
+      let one : read.holds.0 ≡ some.holds.0 = one_groups grouped some.design (texts Groups) read.holds.0 some.holds.0 (subst (λ p. SaysGroups p (texts Groups) read.holds.0) same read.holds.1) some.holds.1 in
+      some.holds.2 (subst (λ v. v.groups ≡ []) one (judges read.holds.0 read.holds.2))
+
+  pub opening_unread : EachOpeningHasOneAnswer → (command : Command) (fault : OpeningsFault) → OpeningIsFaulty top texts fault → IsRead command top texts Opening → ⊥
+  opening_unread law command fault faulty read =
+      let same : read.design ≡ faulty.design = one_design lexed trees apart top (texts Design) read.design faulty.design read.says faulty.says in
+      no_plain_opening law faulty.design (texts Opening) fault faulty.holds (plain read.holds.0) (subst (λ p. SaysOpening p (texts Opening) read.holds.0) same read.holds.1)
+
+  pub events_unread : EachRecordingHasOneAnswer → (command : Command) (fault : EventsFault) → EventsAreFaulty top texts fault → IsRead command top texts Events → ⊥
+  events_unread law command fault faulty read =
+      let p : Parts = faulty.design in
+      let same : read.design ≡ p = one_design lexed trees apart top (texts Design) read.design p read.says faulty.says in
+      let one : read.holds.0 ≡ faulty.holds.0 = one_groups grouped p (texts Groups) read.holds.0 faulty.holds.0 (subst (λ q. SaysGroups q (texts Groups) read.holds.0) same read.holds.2) faulty.holds.1 in
+      no_events law faulty.holds.0 p (texts Events) fault faulty.holds.2 read.holds.1
+      (subst (λ v. SaysEvents v p.inputs (texts Events) read.holds.1) one (subst (λ (q : Parts). SaysEvents read.holds.0 q.inputs (texts Events) read.holds.1) same read.holds.3))
+
+-- ## One recording
+
+abbrev pub recorded : opened.Opening → List Event → Recording
+recorded opening events = record { opening = opening; events = events }
 
 -- texts stand for one recording of a design at most
-pub one_recording : TextsTellOpeningsApart → TextsTellEventsApart → TextsTellRecordingsApart
-one_recording openings events texts p r other says also =
-    ap (λ x. recorded x other.events) (openings p.inputs (texts Opening) other.inputs r.inputs also.opening says.opening)
-    ∙ ap (λ x. recorded r.inputs x) (events p.inputs (texts Events) other.events r.events also.events says.events)
+pub one_recording : groups.EachTextHasOneAnswer → EachOpeningHasOneAnswer → EachRecordingHasOneAnswer → TextsTellRecordingsApart
+one_recording grouped openings recordings texts p r other says also =
+    let v : also.groups ≡ says.groups = one_groups grouped p (texts Groups) also.groups says.groups also.says_groups says.says_groups in
+    let opening : other.opening ≡ r.opening =
+    same_opening other.opening r.opening (one_plain_opening openings p (texts Opening) (plain other.opening) (plain r.opening) also.opening says.opening) in
+    let events : other.events ≡ r.events =
+    one_events recordings says.groups p (texts Events) other.events r.events (subst (λ w. SaysEvents w p.inputs (texts Events) other.events) v also.events) says.events in
+    ap (λ x. recorded x other.events) opening ∙ ap (λ x. recorded r.opening x) events
 
 -- texts stand for one design and one recording at most
 pub one_run : reading.EachTextHasOneAnswer → HasOneTree → designs.TreesTellDesignsApart → TextsTellRecordingsApart → TextsTellRunsApart

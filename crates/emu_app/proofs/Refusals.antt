@@ -1,5 +1,5 @@
 -- That texts which are refused stand for no case.
-use Rattle.std.proofs.Common.{ℕ, ◌≡◌, ◌<◌, ◌≤◌, ◌+◌, List, length, map, drop, Some, None, Result, Ok, Err, refl, sym, subst, inl, inr, true, arith}
+use Rattle.std.proofs.Common.{ℕ, ◌≡◌, ◌<◌, ◌≤◌, ◌+◌, List, [], length, map, drop, Some, None, Result, Ok, Err, refl, sym, subst, inl, inr, true, arith}
 use Rattle.std.proofs.lemmas.List.{take-append-drop}
 use Rattle.std.proofs.lemmas.Bool.{cases_lt}
 use Rattle.verilog_lex.specs.declared.token.Token.{Token}
@@ -19,6 +19,7 @@ use Rattle.clock_rank.specs.Answers.{CyclesAreUnranked}
 use Rattle.elaborator.specs.GateDesign as designs
 use Rattle.design_core.specs.declared.parts.Parts.{Parts}
 use Rattle.design_core.specs.Dependency.{IsRanked}
+use Rattle.domain_groups.specs.Groups.{InputGroups}
 use Rattle.emu_app.specs.declared.refusal.TextFault.{TextFault}
 use Rattle.emu_app.specs.declared.refusal.TextFault.TheVariants.{BadByte, OpenComment, OpenAttribute, BadNumber, UnknownDigit, Directive, Expected, Unsupported, TooDeep}
 use Rattle.emu_machine.specs.Acceptance.{Case}
@@ -27,7 +28,7 @@ use Rattle.emu_app.specs.declared.command.Command.TheVariants.{Check, Settle, Re
 use Rattle.emu_app.specs.declared.recording.Recording.{Recording}
 use Rattle.emu_app.specs.declared.refusal.Refusal.{Refusal}
 use Rattle.emu_app.specs.Command.{Reads, settle_place}
-use Rattle.emu_app.specs.Runs.{RecordingSays}
+use Rattle.emu_app.specs.Runs.{DesignSays, RecordingSays}
 use Rattle.emu_app.specs.declared.refusal.Refusal.TheVariants as refusal
 use Rattle.emu_app.specs.declared.what.What.{What}
 use Rattle.emu_app.specs.declared.what.What.TheVariants.{Design, Cells, Groups, Board, Netlist, Schedule as ScheduleText, Map, Opening, Events}
@@ -35,7 +36,7 @@ use Rattle.emu_app.specs.What.{order}
 use Rattle.emu_app.specs.Fetching.{Texts}
 use Rattle.emu_app.specs.Faults.{HasFault, HasNoTree}
 use Rattle.emu_app.specs.Forms.{AreTokens, HasCells, IsTreeOf, SaysDesign}
-use Rattle.emu_app.specs.Reading.{AreRead, FirstUnread, GoesRound, IsRead, NotYetMeans, Refuses, RefusedTextsStandForNothing, StandFor, StandForSettle}
+use Rattle.emu_app.specs.Reading.{AreRead, FirstUnread, GoesRound, IsRead, NotYetMeans, PlainSays, Refuses, RefusedTextsStandForNothing, StandFor, StandForSettle, TakesGroups}
 use Rattle.emu_app.proofs.OneCases.{case_design, one_design}
 use Rattle.emu_app.proofs.Readings.{no_table, one_answer, tokens_once}
 
@@ -90,51 +91,62 @@ record SaysFirst (command : Command) (top : List ℕ) (texts : Texts) : Type 0 w
   says : SaysDesign top (texts Design) design
   cells : HasCells (texts Cells)
   ranked : IsRanked design
-  all : (what : What) → Reads command what → order Design < order what → IsRead top texts what
+  all : (what : What) → Reads command what → order Design < order what → IsRead command top texts what
 
--- what a case gives
-read_case : (top : List ℕ) (texts : Texts) (c : Case) → StandFor top texts c → (what : What) → order what < 7 → order Design < order what → IsRead top texts what
-read_case top texts c s Design early later = absurd (omega (arith, later))
-read_case top texts c s Cells early later = s.board_says.first.cells
-read_case top texts c s Groups early later = s.board_says.first.groups
-read_case top texts c s Board early later = (s.chip, s.board_says.board)
-read_case top texts c s Netlist early later = (s.results_say.chip, s.results_say.says_netlist)
-read_case top texts c s ScheduleText early later = (s.results_say.schedule, s.results_say.says_schedule)
-read_case top texts c s Map early later = (s.results_say.chip, s.results_say.map, s.results_say.says_netlist, s.results_say.says_map)
-read_case top texts c s Opening early later = absurd (omega (arith, early))
-read_case top texts c s Events early later = absurd (omega (arith, early))
+-- what a case gives, whichever command judges it
+read_case : (command : Command) (top : List ℕ) (texts : Texts) (c : Case) → StandFor top texts c → ((v : InputGroups) → v.groups ≡ [] → TakesGroups command v) → (what : What) → order what < 7 → order Design < order what → IsRead command top texts what
+read_case command top texts c s takes Design early later = absurd (omega (arith, later))
+read_case command top texts c s takes Cells early later = s.board_says.plain.first.cells
+read_case command top texts c s takes Groups early later =
+    let plain : PlainSays top texts s.design = s.board_says.plain in
+    record { design = s.design; says = plain.first.design; holds = (plain.groups, plain.first.groups, takes plain.groups plain.none) }
+read_case command top texts c s takes Board early later = (s.chip, s.board_says.board)
+read_case command top texts c s takes Netlist early later = (s.results_say.chip, s.results_say.says_netlist)
+read_case command top texts c s takes ScheduleText early later = (s.results_say.schedule, s.results_say.says_schedule)
+read_case command top texts c s takes Map early later = (s.results_say.chip, s.results_say.map, s.results_say.says_netlist, s.results_say.says_map)
+read_case command top texts c s takes Opening early later = absurd (omega (arith, early))
+read_case command top texts c s takes Events early later = absurd (omega (arith, early))
+
+-- what a recording of a design gives
+read_opened : (command : Command) (top : List ℕ) (texts : Texts) (p : Parts) (r : Recording) → SaysDesign top (texts Design) p → RecordingSays texts p r → IsRead command top texts Opening
+read_opened command top texts p r design says = record { design = p; says = design; holds = (r.opening, says.opening) }
+
+read_events : (command : Command) (top : List ℕ) (texts : Texts) (p : Parts) (r : Recording) → SaysDesign top (texts Design) p → RecordingSays texts p r → IsRead command top texts Events
+read_events command top texts p r design says = record { design = p; says = design; holds = (says.groups, r.events, says.says_groups, says.events) }
 
 -- what a design with a recording gives
-read_run : (top : List ℕ) (texts : Texts) (p : Parts) (r : Recording) → StandForSettle top texts p r → (what : What) → settle_place what < 5 → order Design < order what → IsRead top texts what
+read_run : (top : List ℕ) (texts : Texts) (p : Parts) (r : Recording) → StandForSettle top texts p r → (what : What) → settle_place what < 5 → order Design < order what → IsRead Settle top texts what
 read_run top texts p r s Design reads later = absurd (omega (arith, later))
 read_run top texts p r s Cells reads later = s.first.cells
-read_run top texts p r s Groups reads later = s.first.groups
+read_run top texts p r s Groups reads later = record { design = p; says = s.first.design; holds = (s.groups, s.first.groups, tt) }
 read_run top texts p r s Board reads later = absurd (omega (arith, reads))
 read_run top texts p r s Netlist reads later = absurd (omega (arith, reads))
 read_run top texts p r s ScheduleText reads later = absurd (omega (arith, reads))
 read_run top texts p r s Map reads later = absurd (omega (arith, reads))
-read_run top texts p r s Opening reads later = (p, r.inputs, s.first.design, s.recorded.opening)
-read_run top texts p r s Events reads later = (p, r.events, s.first.design, s.recorded.events)
+read_run top texts p r s Opening reads later = read_opened Settle top texts p r s.first.design s.recorded
+read_run top texts p r s Events reads later = read_events Settle top texts p r s.first.design s.recorded
 
 -- what a case with a recording of its design gives
-read_replay : (top : List ℕ) (texts : Texts) (c : Case) (r : Recording) → StandFor top texts c → RecordingSays texts c.design r → (what : What) → order Design < order what → IsRead top texts what
+read_replay : (top : List ℕ) (texts : Texts) (c : Case) (r : Recording) → StandFor top texts c → RecordingSays texts c.design r → (what : What) → order Design < order what → IsRead Replay top texts what
 read_replay top texts c r s recorded Design later = absurd (omega (arith, later))
-read_replay top texts c r s recorded Cells later = s.board_says.first.cells
-read_replay top texts c r s recorded Groups later = s.board_says.first.groups
-read_replay top texts c r s recorded Board later = (s.chip, s.board_says.board)
-read_replay top texts c r s recorded Netlist later = (s.results_say.chip, s.results_say.says_netlist)
-read_replay top texts c r s recorded ScheduleText later = (s.results_say.schedule, s.results_say.says_schedule)
-read_replay top texts c r s recorded Map later = (s.results_say.chip, s.results_say.map, s.results_say.says_netlist, s.results_say.says_map)
-read_replay top texts c r s recorded Opening later = (c.design, r.inputs, case_design top texts c s, recorded.opening)
-read_replay top texts c r s recorded Events later = (c.design, r.events, case_design top texts c s, recorded.events)
+read_replay top texts c r s recorded Cells later = read_case Replay top texts c s (λ v none. none) Cells (omega arith) later
+read_replay top texts c r s recorded Groups later = read_case Replay top texts c s (λ v none. none) Groups (omega arith) later
+read_replay top texts c r s recorded Board later = read_case Replay top texts c s (λ v none. none) Board (omega arith) later
+read_replay top texts c r s recorded Netlist later = read_case Replay top texts c s (λ v none. none) Netlist (omega arith) later
+read_replay top texts c r s recorded ScheduleText later = read_case Replay top texts c s (λ v none. none) ScheduleText (omega arith) later
+read_replay top texts c r s recorded Map later = read_case Replay top texts c s (λ v none. none) Map (omega arith) later
+read_replay top texts c r s recorded Opening later = read_opened Replay top texts c.design r (case_design top texts c s) recorded
+read_replay top texts c r s recorded Events later = read_events Replay top texts c.design r (case_design top texts c s) recorded
 
 says_first : (command : Command) (top : List ℕ) (texts : Texts) → AreRead command top texts → SaysFirst command top texts
 says_first Check top texts (c, s) =
-    record { design = s.design; says = s.board_says.first.design; cells = s.board_says.first.cells; ranked = s.board_says.first.ranked; all = λ what reads later. read_case top texts c s what reads later }
+    let first : DesignSays top texts s.design s.board_says.plain.groups = s.board_says.plain.first in
+    record { design = s.design; says = first.design; cells = first.cells; ranked = first.ranked; all = λ what reads later. read_case Check top texts c s (λ v none. none) what reads later }
 says_first Settle top texts (p, r, s) =
     record { design = p; says = s.first.design; cells = s.first.cells; ranked = s.first.ranked; all = λ what reads later. read_run top texts p r s what reads later }
 says_first Replay top texts (c, r, s, recorded) =
-    record { design = s.design; says = s.board_says.first.design; cells = s.board_says.first.cells; ranked = s.board_says.first.ranked; all = λ what reads later. read_replay top texts c r s recorded what later }
+    let first : DesignSays top texts s.design s.board_says.plain.groups = s.board_says.plain.first in
+    record { design = s.design; says = first.design; cells = first.cells; ranked = first.ranked; all = λ what reads later. read_replay top texts c r s recorded what later }
 
 not_first : (command : Command) (top : List ℕ) (texts : Texts) (what : What) → FirstUnread command top texts what → SaysFirst command top texts → ⊥
 not_first command top texts what first s = first.here (s.all what first.reads first.later)
@@ -142,13 +154,13 @@ not_first command top texts what first s = first.here (s.all what first.reads fi
 not_yet : (command : Command) (top : List ℕ) (texts : Texts) (what : What) → NotYetMeans command top texts what → SaysFirst command top texts → ⊥
 not_yet command top texts Design means s = means.1.none s.design s.says
 not_yet command top texts Cells means s = means
-not_yet command top texts Groups means s = not_first command top texts Groups means s
+not_yet command top texts Groups means s = not_first command top texts Groups means.1 s
 not_yet command top texts Board means s = not_first command top texts Board means.1 s
 not_yet command top texts Netlist means s = not_first command top texts Netlist means s
 not_yet command top texts ScheduleText means s = not_first command top texts ScheduleText means s
 not_yet command top texts Map means s = not_first command top texts Map means s
-not_yet command top texts Opening means s = not_first command top texts Opening means s
-not_yet command top texts Events means s = not_first command top texts Events means s
+not_yet command top texts Opening means s = means
+not_yet command top texts Events means s = means
 
 not_refused : reading.EachTextHasOneAnswer → HasOneTree → tables.EachTextHasOneAnswer → designs.TreesTellDesignsApart → CyclesAreUnranked
     → (command : Command) (top : List ℕ) (texts : Texts) (why : Refusal) → Refuses command top texts why → SaysFirst command top texts → ⊥
@@ -159,7 +171,10 @@ not_refused law trees tables-law apart cycles command top texts (refusal.Cycle n
     let round : GoesRound top (texts Design) names = means.1 in
     let same : s.design ≡ round.design = one_design law trees apart top (texts Design) s.design round.design s.says round.says in
     cycles round.design round.cycle.nodes round.cycle.is_cycle (subst IsRanked same s.ranked)
+not_refused law trees tables-law apart cycles command top texts (refusal.Groups fault) means s = not_first command top texts Groups means.1 s
 not_refused law trees tables-law apart cycles command top texts (refusal.Board fault) means s = not_first command top texts Board means.1 s
+not_refused law trees tables-law apart cycles command top texts (refusal.Opening fault) means s = not_first command top texts Opening means.1 s
+not_refused law trees tables-law apart cycles command top texts (refusal.Events fault) means s = not_first command top texts Events means.1 s
 not_refused law trees tables-law apart cycles command top texts (refusal.NotYet what) means s = not_yet command top texts what means s
 
 -- texts that a command refuses stand for nothing

@@ -1,34 +1,30 @@
 -- What running recorded events on results comes to.
 use Rattle.std.proofs.Common.{ℕ, zero, suc, ◌≡◌, ◌<◌, ◌≤◌, Bool, true, List, [], ◌∷◌, length, map, take, Option, Some, None, Result, Ok, Err, IfOk, IsTrue, slice_get, Contains, inr, refl, sym, ◌∙◌, ap, subst, arith}
 use Rattle.std.proofs.lemmas.List.{take-map}
-use Rattle.std.proofs.lemmas.Map.Views.{Contains-from_any}
-use Rattle.std.proofs.lemmas.Option.{slice_get_within, get_or_from_slice_get, slice_get-get_or}
-use Rattle.id_arena.specs.declared.keys.NetId.{NetId}
+use Rattle.std.proofs.lemmas.Option.{slice_get-get_or}
 use Rattle.design_core.specs.declared.node.NodeId.{NodeId}
 use Rattle.design_core.specs.declared.parts.Parts.{Parts}
 use Rattle.design_core.specs.declared.values.Event.{Event}
-use Rattle.design_core.specs.declared.values.PortBit.{PortBit}
 use Rattle.design_core.specs.Dependency.{IsRanked}
-use Rattle.design_core.specs.Design.{IsDesign, is_net, net_count, port_bits}
+use Rattle.design_core.specs.Design.{IsDesign, net_count}
 use Rattle.design_core.specs.Event.{IsHistory, HasOneHistory}
 use Rattle.design_core.specs.Influence.{Group, all_groups}
 use Rattle.design_core.specs.Settled.{IsOpened, OpeningFits}
 use Rattle.design_core.specs.Valuation.{SameValues, Valuation}
 use Rattle.one_history.specs.Histories.{OneHistory}
-use Rattle.history_law.specs.Drivers.{InputIsInputBit}
-use Rattle.history_law.proofs.Naming.{number_same}
 use Rattle.emu_io.specs.declared.files.StoreFault.{StoreFault}
 use Rattle.emu_io.specs.declared.files.StoreFault.TheVariants as store
 use Rattle.emu_io.specs.Sink.{AppendsWhereTold}
-use Rattle.emu_machine.specs.declared.results.Results.{Results}
 use Rattle.emu_machine.specs.declared.schedule.Frame.{Frame}
 use Rattle.emu_machine.specs.declared.place.Place.TheVariants as place
 use Rattle.emu_machine.specs.declared.map.Spot.{Spot}
 use Rattle.emu_machine.specs.declared.map.Subject.{Subject}
 use Rattle.emu_machine.specs.declared.map.Subject.TheVariants.{Net, Up, Down, Take, Next, TakeWrite, Old, TakeRead}
-use Rattle.emu_machine.specs.Acceptance.{A2, A4, A5, A7, Holds, frame_differs}
-use Rattle.emu_machine.specs.Headline.{EventsFit, event_values}
-use Rattle.emu_machine.specs.Law.{IsCase, MapFits}
+use Rattle.emu_machine.specs.declared.rule.Rule.TheVariants.{A2, A4, A5, A7}
+use Rattle.emu_machine.specs.Acceptance.{Holds, frame_differs}
+use Rattle.emu_machine.specs.Headline.{EventFits, EventsFit, event_values}
+use Rattle.emu_machine.specs.Law.{IsCase}
+use Rattle.emu_machine.specs.Results.{MapFits, Results}
 use Rattle.emu_machine.specs.Mapped.{IsLoaded, IsValueOf, subject}
 use Rattle.emu_machine.specs.Netlist.{IsNetlist, chip_at}
 use Rattle.emu_machine.specs.Plain.{IsPlainResults}
@@ -37,10 +33,14 @@ use Rattle.cycle_sim.specs.Judged.{IsPlainCase, JudgedCanLoad, JudgedCanRun}
 use Rattle.cycle_sim.specs.Standing.{CanRun}
 use Rattle.cycle_sim.specs.Loading.{CanLoad, FreeAreZero, IsDesignNet}
 use Rattle.schedule_check.specs.Verdict.{all_inputs}
-use Rattle.settled_model.specs.Opening.{AreInputs, Opens}
+use Rattle.settled_model.specs.declared.opening.Opening as opened
+use Rattle.settled_model.specs.Opening.{Opens, stands_for}
 use Rattle.settled_model.specs.Runs.{OpeningsFit}
-use Rattle.event_replay.specs.Runs.{machine_trace, spots_of, BreaksOff, ReplayMeans as RunMeans}
-use Rattle.event_replay.specs.Settings.{AreInputBits}
+use Rattle.domain_groups.specs.Answers as groups
+use Rattle.domain_groups.specs.Events.{RecordedEventsFit}
+use Rattle.domain_groups.specs.Groups.{AreOf, InputGroups}
+use Rattle.domain_groups.specs.Traces.{machine_trace, spots_of, BreaksOff}
+use Rattle.event_replay.specs.Runs.{ReplayMeans as RunMeans}
 use Rattle.trace_law.specs.Traces.{BrokenTraces, LoadedTraceIsOne, OpenedAreSame, TracesAgree}
 use Rattle.emu_app.specs.declared.answer.Answer.{Answer}
 use Rattle.emu_app.specs.declared.plan_texts.OneChip.{OneChip}
@@ -48,21 +48,17 @@ use Rattle.emu_app.specs.declared.recording.Recording.{Recording}
 use Rattle.emu_app.specs.declared.replay.Replayed.{Replayed}
 use Rattle.emu_app.specs.Answers.{Comes, RejectsReplay, ReplayMeans, Replays, TraceStops, WritesTrace}
 use Rattle.emu_app.specs.Fetching.{Texts}
-use Rattle.emu_app.specs.Reading.{ReplayedSays, StandForOneReplay, TextsTellCasesApart, TextsTellRecordingsApart, case_of}
-use Rattle.emu_app.specs.Runs.{CanReplay, HasInputBits, IsMachineTrace, IsRun, IsUnfit, opened_with, opening_of}
+use Rattle.emu_app.specs.declared.what.What.TheVariants.{Groups, Events}
+use Rattle.emu_app.specs.Reading.{PlainSays, ReplayedSays, StandForOneReplay, TextsTellCasesApart, TextsTellRecordingsApart, case_of}
+use Rattle.emu_app.specs.Runs.{CanReplay, FitsDesign, IsMachineTrace, IsRun, IsUnfit, opening_of}
 use Rattle.emu_app.proofs.OneCases.{is_case, reads_case}
+use Rattle.emu_app.proofs.Readings.{one_groups}
 
 -- ## Lists
 
--- what stands at a place is contained, and what is contained stands at a place
-contained : {X : Type 0} (xs : List X) (k : ℕ) (x : X) → slice_get xs k ≡ Some x → Contains xs x
-contained xs k x at = (k, slice_get_within xs k x at, get_or_from_slice_get xs k x x at)
-
+-- what is contained stands at a place
 placed : {X : Type 0} (xs : List X) (x : X) (h : Contains xs x) → slice_get xs h.0 ≡ Some x
 placed xs x h = slice_get-get_or xs h.0 x h.1 ∙ ap Some h.2
-
-none_in : {X : Type 0} (x : X) → Contains [] x → ⊥
-none_in x h = let low : h.0 < 0 = h.1 in omega (arith, low)
 
 -- what holds of a value gives what else holds of it
 pub if_ok : {X E : Type 0} (P Q : X → Type 0) (result : Result X E) → ((x : X) → P x → Q x) → IfOk result P → IfOk result Q
@@ -71,28 +67,15 @@ if_ok P Q (Err e) gives holds = tt
 
 -- ## What a recording gives
 
-same_net : (a b : NetId) → is_net a.place b ≡ true → a ≡ b
-same_net a b same = let places : b.place ≡ a.place = number_same b.place a.place same in ap (λ (k : ℕ). record { place = k }) (sym places)
-
--- input bits are bits of input ports
-pub bits_of_inputs : InputIsInputBit → (p : Parts) (values : List PortBit) → AreInputBits p values → AreInputs p values
-bits_of_inputs law p values bits b here =
-    Contains-from_any {eq = λ a. is_net a.place} same_net b.net (port_bits p.inputs) (law p b.net.place (bits.inputs b here))
-
--- an opening that names inputs alone is one of the design
-pub opens_inputs : InputIsInputBit → (p : Parts) (inputs : List PortBit) → AreInputBits p inputs → Opens p (record { inputs = inputs; ones = []; words = [] })
-opens_inputs law p inputs bits =
-    record { inputs = bits_of_inputs law p inputs bits; ones = λ id has. absurd (none_in id has); words = λ w has. absurd (none_in w has) }
-
--- the events fit a case without groups
-pub events_fit : InputIsInputBit → (p : Parts) (chip : OneChip) (results : Results) (r : Recording) → HasInputBits p r → EventsFit (case_of p chip results) r.events
-events_fit law p chip results r bits k event at =
-    let here : Contains r.events event = contained r.events k event at in
-    record {
-      group = all_inputs p;
-      named = ap (slice_get (all_groups p [])) (bits.groups event here);
-      inputs = bits_of_inputs law p event.values (bits.events event here);
-    }
+-- the events that texts tell fit the case that they stand for
+pub events_fit : groups.EachTextHasOneAnswer → RecordedEventsFit → (top : List ℕ) (texts : Texts) (p : Parts) (r : Replayed) → ReplayedSays top texts p r → EventsFit (case_of p r.chip r.results) r.recording.events
+events_fit grouped fit top texts p r says =
+    let plain : PlainSays top texts p = says.board.plain in
+    let v : InputGroups = says.recorded.groups in
+    let same : plain.groups ≡ v = one_groups grouped p (texts Groups) plain.groups v plain.first.groups says.recorded.says_groups in
+    let none : v.groups ≡ [] = subst (λ (w : InputGroups). w.groups ≡ []) same plain.none in
+    let of_p : AreOf p v = ap (λ w. w.inputs) says.recorded.says_groups.are in
+    fit (case_of p r.chip r.results) v (texts Events) r.recording.events none of_p says.recorded.events
 
 -- ## What the rules give
 
@@ -104,11 +87,16 @@ first_frame p chip results inside holds = go results.schedule.frames (holds (pla
     go [] never = absurd (never refl)
     go (f ∷ fs) never = omega arith
 
-pub frame_there : (p : Parts) (chip : OneChip) (results : Results) (r : Recording) → CanReplay (case_of p chip results) → HasInputBits p r
+only_group : (p : Parts) (k : ℕ) (g : Group) → slice_get (all_groups p []) k ≡ Some g → k ≡ 0
+only_group p zero g here = refl
+only_group p (suc k) g here = absurd (cc)
+
+pub frame_there : (p : Parts) (chip : OneChip) (results : Results) (r : Recording) → CanReplay (case_of p chip results) → EventsFit (case_of p chip results) r.events
     → (event : Event) → Contains r.events event → event.group.place < length results.schedule.frames
-frame_there p chip results r fit bits event has =
+frame_there p chip results r fit events event has =
     let first : 0 < length results.schedule.frames = first_frame p chip results fit.inside (fit.rules A4 (omega arith)) in
-    let zeroth : event.group.place ≡ 0 = bits.groups event has in
+    let of_group : EventFits (case_of p chip results) event = events has.0 event (placed r.events event has) in
+    let zeroth : event.group.place ≡ 0 = only_group p event.group.place of_group.group of_group.named in
     omega (arith, first, zeroth)
 
 -- plain results for a design without groups make a plain case
@@ -158,11 +146,11 @@ loaded_same p results v w x can same loaded =
     value None none b is = absurd none
 
 -- what is loaded from an opened valuation is loaded from each of the same opening
-pub opened_loaded : OpenedAreSame → (p : Parts) (inputs : List PortBit) (results : Results) (w : Valuation) (x : State)
-    → IsDesign p → IsRanked p → OpeningFits p (opened_with inputs) → CanLoad p results
-    → IsOpened p (opened_with inputs) w → IsLoaded p results w x → (v : Valuation) → IsOpened p (opened_with inputs) v → IsLoaded p results v x
-opened_loaded law p inputs results w x design ranked fits can opened loaded v is =
-    loaded_same p results v w x can (law p (opened_with inputs) v w design ranked fits is opened) loaded
+pub opened_loaded : OpenedAreSame → (p : Parts) (o : opened.Opening) (results : Results) (w : Valuation) (x : State)
+    → IsDesign p → IsRanked p → OpeningFits p (stands_for o) → CanLoad p results
+    → IsOpened p (stands_for o) w → IsLoaded p results w x → (v : Valuation) → IsOpened p (stands_for o) v → IsLoaded p results v x
+opened_loaded law p o results w x design ranked fits can opens loaded v is =
+    loaded_same p results v w x can (law p (stands_for o) v w design ranked fits is opens) loaded
 
 -- ## The trace of the machine
 
@@ -196,13 +184,13 @@ module _ (p : Parts) (chip : OneChip) (results : Results) (r : Recording) (x : S
           }
 
 -- the trace of a machine that is loaded from the values of the settled valuation
-pub loaded_trace : TracesAgree → LoadedTraceIsOne → OneHistory → OpeningsFit → InputIsInputBit → (p : Parts) (chip : OneChip) (results : Results) (r : Recording) (x y : State)
-    → CanReplay (case_of p chip results) → IsPlainResults results → IsDesign p → IsRanked p → MapFits results → IsNetlist results.net → HasInputBits p r → x ≡ y
+pub loaded_trace : TracesAgree → LoadedTraceIsOne → OneHistory → OpeningsFit → (p : Parts) (chip : OneChip) (results : Results) (r : Recording) (x y : State)
+    → CanReplay (case_of p chip results) → IsPlainResults results → IsDesign p → IsRanked p → MapFits results → IsNetlist results.net → FitsDesign p r → EventsFit (case_of p chip results) r.events → x ≡ y
     → ((v : Valuation) → IsOpened p (opening_of r) v → IsLoaded p results v y) → FreeAreZero results y
     → IsMachineTrace (case_of p chip results) r (machine_trace p results (run_of results [] x r.events))
-loaded_trace agree single one opens law p chip results r x y fit plain design ranked mapped netlist bits same loaded free =
-    let fits : OpeningFits p (opening_of r) = opens p _ (opens_inputs law p r.inputs bits.opening) in
-    run_trace p chip results r x fit plain agree single (is_case p chip results design ranked mapped netlist) fits (events_fit law p chip results r bits)
+loaded_trace agree single one opens p chip results r x y fit plain design ranked mapped netlist bits events same loaded free =
+    let fits : OpeningFits p (opening_of r) = opens p r.opening bits.opening in
+    run_trace p chip results r x fit plain agree single (is_case p chip results design ranked mapped netlist) fits events
     (one p (opening_of r) (event_values r.events) design ranked fits)
     (subst (λ (z : State). (v : Valuation) → IsOpened p (opening_of r) v → IsLoaded p results v z) (sym same) loaded)
     (subst (λ (z : State). FreeAreZero results z) (sym same) free)

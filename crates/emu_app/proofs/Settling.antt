@@ -1,25 +1,19 @@
 -- What `settle` prints: the trace of the one history, whole or as far as it came.
 use Rattle.std.proofs.Common.{ℕ, ◌≡◌, ◌<◌, arith, List, [], Bool, true, length, take, drop, map, Option, Ok, Err, inr, refl, sym, ap, subst}
 use Rattle.std.proofs.Math.Seq.{take-length}
-use Rattle.std.proofs.lemmas.Map.Views.{Contains-from_any}
-use Rattle.id_arena.specs.declared.keys.NetId.{NetId}
 use Rattle.design_core.specs.declared.parts.Parts.{Parts}
-use Rattle.design_core.specs.declared.values.PortBit.{PortBit}
 use Rattle.design_core.specs.Dependency.{IsRanked}
-use Rattle.design_core.specs.Design.{IsDesign, is_net, port_bits}
+use Rattle.design_core.specs.Design.{IsDesign}
 use Rattle.design_core.specs.Event.{Follow, HasOneHistory}
 use Rattle.design_core.specs.Settled.{IsOpened, OpeningFits}
 use Rattle.design_core.specs.Valuation.{Valuation}
 use Rattle.emu_io.specs.declared.files.StoreFault.{StoreFault}
 use Rattle.emu_io.specs.declared.files.StoreFault.TheVariants as store
 use Rattle.emu_machine.specs.Headline.{event_values}
-use Rattle.event_replay.specs.Runs.{BreaksOff, HaveSettled, SettleMeans, outputs_of, settled_trace}
-use Rattle.event_replay.specs.Settings.{AreInputBits}
-use Rattle.history_law.specs.Drivers.{InputIsInputBit}
-use Rattle.history_law.proofs.Naming.{number_same}
+use Rattle.domain_groups.specs.Groups.{InputGroups}
+use Rattle.domain_groups.specs.Traces.{BreaksOff, outputs_of, settled_trace}
+use Rattle.event_replay.specs.Runs.{HaveSettled, SettleMeans}
 use Rattle.one_history.specs.Histories.{OneHistory}
-use Rattle.settled_model.specs.declared.opening.Opening.{Opening}
-use Rattle.settled_model.specs.Opening.{AreInputs, Opens, stands_for}
 use Rattle.settled_model.specs.Runs.{OpeningsFit}
 use Rattle.trace_law.specs.Traces.{BrokenTraces, SettledTraceIsOne, SettledTraces}
 use Rattle.emu_app.specs.declared.answer.Answer.{Answer}
@@ -27,29 +21,7 @@ use Rattle.emu_app.specs.declared.recording.Recording.{Recording}
 use Rattle.emu_app.specs.Answers.{Comes, Settles, TraceStops, WritesTrace}
 use Rattle.emu_app.specs.Fetching.{Texts}
 use Rattle.emu_app.specs.Reading.{StandForSettle, TextsTellRunsApart}
-use Rattle.emu_app.specs.Runs.{DesignSays, HasInputBits, IsHistoryTrace, NoAnswer, RecordingSays, opening_of}
-
-same_net : (a b : NetId) → is_net a.place b ≡ true → a ≡ b
-same_net a b same =
-    let places : b.place ≡ a.place = number_same b.place a.place same in
-    ap (λ (k : ℕ). record { place = k }) (sym places)
-
-inputs_of_ports : InputIsInputBit → (p : Parts) (values : List PortBit) → AreInputBits p values → AreInputs p values
-inputs_of_ports law p values bits b here =
-    Contains-from_any {eq = λ a. is_net a.place} same_net b.net (port_bits p.inputs) (law p b.net.place (bits.inputs b here))
-
--- the opening that names inputs alone
-abbrev pub naming : List PortBit → Opening
-naming values = record { inputs = values; ones = []; words = [] }
-
--- it is one of the design
-pub opens : InputIsInputBit → (p : Parts) (values : List PortBit) → AreInputBits p values → Opens p (naming values)
-opens law p values bits =
-    record {
-      inputs = inputs_of_ports law p values bits;
-      ones = λ id here. absurd (let none : here.0 < 0 = here.1 in omega (arith, none));
-      words = λ w here. absurd (let none : here.0 < 0 = here.1 in omega (arith, none));
-    }
+use Rattle.emu_app.specs.Runs.{DesignSays, FitsDesign, IsHistoryTrace, NoAnswer, RecordingSays, opening_of}
 
 -- what is known once the original is opened
 pub record HasOpened (p : Parts) (r : Recording) (v : Valuation) : Type 0 where
@@ -59,17 +31,17 @@ pub record HasOpened (p : Parts) (r : Recording) (v : Valuation) : Type 0 where
   pub one : HasOneHistory p (opening_of r) (event_values r.events)
   pub opened : IsOpened p (opening_of r) v
 
-pub has_opened : OneHistory → OpeningsFit → InputIsInputBit → (p q : Parts) (r : Recording) (o : Opening) (v : Valuation)
-    → q ≡ p → IsDesign q → IsRanked p → HasInputBits p r → o ≡ naming r.inputs → IsOpened p (stands_for o) v → HasOpened p r v
-has_opened history fit inputs p q r o v same sound ranked bits is opened =
+pub has_opened : OneHistory → OpeningsFit → (p q : Parts) (r : Recording) (v : Valuation)
+    → q ≡ p → IsDesign q → IsRanked p → FitsDesign p r → IsOpened p (opening_of r) v → HasOpened p r v
+has_opened history fit p q r v same sound ranked bits opened =
     let stands : IsDesign p = subst IsDesign same sound in
-    let fits : OpeningFits p (opening_of r) = fit p (naming r.inputs) (opens inputs p r.inputs bits.opening) in
+    let fits : OpeningFits p (opening_of r) = fit p r.opening bits.opening in
     record {
       sound = stands;
       ranked = ranked;
       fits = fits;
       one = history p (opening_of r) (event_values r.events) stands ranked fits;
-      opened = subst (λ (made : Opening). IsOpened p (stands_for made) v) is opened;
+      opened = opened;
     }
 
 module _ (p : Parts) (r : Recording) (v : Valuation) (begun : HasOpened p r v) where
@@ -105,9 +77,9 @@ module _ (p : Parts) (r : Recording) (v : Valuation) (begun : HasOpened p r v) w
       inr (stops law broken means.1.0 means.1.1 now old new means.1.2 means.1.3)
 
 -- texts that say a design and a recording of it have the trace of its history
-pub settles : TextsTellRunsApart → (top : List ℕ) (texts : Texts) (p : Parts) (r : Recording) → DesignSays top texts p → RecordingSays texts p r → (trace : List ℕ) → IsHistoryTrace p r trace → Settles top texts trace
-settles law top texts p r first recorded trace is =
-    let stand : StandForSettle top texts p r = record { first = first; recorded = recorded } in
+pub settles : TextsTellRunsApart → (top : List ℕ) (texts : Texts) (p : Parts) (v : InputGroups) (r : Recording) → DesignSays top texts p v → RecordingSays texts p r → (trace : List ℕ) → IsHistoryTrace p r trace → Settles top texts trace
+settles law top texts p v r first recorded trace is =
+    let stand : StandForSettle top texts p r = record { groups = v; first = first; recorded = recorded } in
     record {
       design = p;
       recording = r;

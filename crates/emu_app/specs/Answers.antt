@@ -7,7 +7,7 @@ use Rattle.emu_io.specs.declared.files.StoreFault.TheVariants as store
 use Rattle.emu_io.specs.Files.{Held}
 use Rattle.emu_io.specs.Faults.{Rose}
 use Rattle.emu_io.specs.Sink.{AppendsWhereTold}
-use Rattle.emu_machine.specs.declared.schedule.Schedule.{Schedule}
+use Rattle.emu_machine.specs.Results.{Results}
 use Rattle.emu_machine.specs.Acceptance.{Case, IsAccepted}
 use Rattle.emu_machine.specs.Headline.{Headline}
 use Rattle.emu_app.specs.declared.answer.Answer.{Answer}
@@ -27,13 +27,13 @@ use Rattle.emu_app.specs.Reading.{StandForOne, StandForOneSettle, StandForOneRep
 use Rattle.emu_app.specs.Runs.{IsHistoryTrace, IsMachineTrace, CanReplay}
 
 -- The texts stand for one case, and the rules A1 to A12 hold for it: then the machine agrees with the
--- design after every event, for every opening and every list of events. The schedule is that of the case.
-pub record Accepts (top : List ℕ) (texts : Texts) (schedule : Schedule) : Type 0 where
+-- design after every event, for every opening and every list of events. The results are those of the case.
+pub record Accepts (top : List ℕ) (texts : Texts) (results : Results) : Type 0 where
   pub judged : Case
   pub stand : StandForOne top texts judged
   pub accepted : IsAccepted judged
   pub headline : Headline judged
-  pub shown : judged.results.schedule ≡ schedule
+  pub shown : judged.results ≡ results
 
 -- the texts stand for one case, and one of the rules A1 to A12 fails for it
 pub record Rejects (top : List ℕ) (texts : Texts) : Type 0 where
@@ -50,7 +50,7 @@ pub record RejectsReplay (top : List ℕ) (texts : Texts) : Type 0 where
 
 -- what judging the texts comes to; it is no matter of other answers
 abbrev pub JudgeMeans : List ℕ → Texts → Answer → Type 0
-JudgeMeans top texts (answer.Accepted schedule) = Accepts top texts schedule
+JudgeMeans top texts (answer.Accepted results) = Accepts top texts results
 JudgeMeans top texts answer.Rejected = Rejects top texts
 JudgeMeans top texts (answer.Refused why) = Refuses Check top texts why
 JudgeMeans top texts other = ⊥
@@ -96,7 +96,7 @@ TraceMeans Replay top texts trace = Replays top texts trace
 -- the answers of a command to texts that are fetched: `settle` judges nothing, and only `check` accepts
 abbrev pub CanAnswer : Command → Answer → Type 0
 CanAnswer Check found = Unit {0}
-CanAnswer other (answer.Accepted schedule) = ⊥
+CanAnswer other (answer.Accepted results) = ⊥
 CanAnswer Settle answer.Rejected = ⊥
 CanAnswer other found = Unit {0}
 

@@ -2,7 +2,7 @@
 -- The rules are told in docs/FORMATS.md, "Commands" and "Printed texts".
 use Rattle.std.specs.Prelude.{ℕ, List}
 use Rattle.design_core.specs.declared.parts.Parts.{Parts}
-use Rattle.emu_machine.specs.declared.results.Results.{Results}
+use Rattle.emu_machine.specs.Results.{Results}
 use Rattle.emu_app.specs.declared.answer.Answer.{Answer}
 use Rattle.emu_app.specs.declared.plan_texts.OneChip.{OneChip}
 use Rattle.emu_app.specs.Fetching.{Texts}

@@ -42,6 +42,11 @@ place_of other what = order what
 abbrev pub Reads : Command → What → Type 0
 Reads command what = place_of command what < text_count command
 
+-- the commands that judge results
+abbrev pub Judges : Command → Type 0
+Judges Settle = ⊥
+Judges other = Unit {0}
+
 -- the text at a place of the order of all, and of those that `settle` reads
 abbrev pub what_at : ℕ → What
 what_at place =

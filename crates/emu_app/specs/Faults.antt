@@ -1,6 +1,7 @@
 -- The faults that are told of texts: of a design text that has no tree, with their places in bytes; of a
--- table of cells; of a board.
--- The rules are told in docs/FORMATS.md, "Tokens", "The grammar", "The cell table" and "The board".
+-- table of cells; of groups; of a board; of an opening; of events.
+-- The rules are told in docs/FORMATS.md, "Tokens", "The grammar", "The cell table", "Groups", "The board" and
+-- "Openings and events".
 use Rattle.std.specs.Prelude.{◌≡◌, ℕ, true, List, Err, length, map, slice_get}
 use Rattle.std.specs.Option.{option_map_or}
 use Rattle.verilog_lex.specs.declared.token.Token.{Token}
@@ -17,13 +18,30 @@ use Rattle.board_model.specs.Answers as boards
 use Rattle.cell_table.specs.declared.fault.CellFault.{CellFault}
 use Rattle.cell_table.specs.declared.fault.CellFault.TheVariants as told_cell
 use Rattle.cell_table.specs.Table as tables
+use Rattle.design_core.specs.declared.parts.Parts.{Parts}
+use Rattle.domain_groups.specs.declared.events.EventFault.{EventFault}
+use Rattle.domain_groups.specs.declared.events.EventFault.TheVariants as told_event
+use Rattle.domain_groups.specs.declared.fault.GroupFault.{GroupFault}
+use Rattle.domain_groups.specs.declared.fault.GroupFault.TheVariants as told_group
+use Rattle.domain_groups.specs.declared.openings.OpeningFault.{OpeningFault}
+use Rattle.domain_groups.specs.declared.openings.OpeningFault.TheVariants as told_opening
+use Rattle.domain_groups.specs.Answers as groups_read
+use Rattle.domain_groups.specs.Events.{EventAnswers}
+use Rattle.domain_groups.specs.Groups.{InputGroups}
+use Rattle.domain_groups.specs.Openings.{OpeningAnswers, PlainOpening}
 use Rattle.emu_app.specs.declared.refusal.BoardsFault.{BoardsFault}
 use Rattle.emu_app.specs.declared.refusal.BoardsFault.TheVariants as board
 use Rattle.emu_app.specs.declared.refusal.CellsFault.{CellsFault}
 use Rattle.emu_app.specs.declared.refusal.CellsFault.TheVariants as cells
+use Rattle.emu_app.specs.declared.refusal.EventsFault.{EventsFault}
+use Rattle.emu_app.specs.declared.refusal.EventsFault.TheVariants as events
+use Rattle.emu_app.specs.declared.refusal.GroupsFault.{GroupsFault}
+use Rattle.emu_app.specs.declared.refusal.GroupsFault.TheVariants as groups
+use Rattle.emu_app.specs.declared.refusal.OpeningsFault.{OpeningsFault}
+use Rattle.emu_app.specs.declared.refusal.OpeningsFault.TheVariants as opening
 use Rattle.emu_app.specs.declared.refusal.TextFault.{TextFault}
 use Rattle.emu_app.specs.declared.refusal.TextFault.TheVariants.{BadByte, OpenComment, OpenAttribute, BadNumber, UnknownDigit, Directive, Expected, Unsupported, TooDeep}
-use Rattle.emu_app.specs.declared.refusal.Refusal.TheVariants.{Faulty, Cells, Board}
+use Rattle.emu_app.specs.declared.refusal.Refusal.TheVariants.{Faulty, Cells, Groups, Board, Opening, Events}
 use Rattle.emu_app.specs.declared.refusal.Unread.{Unread}
 use Rattle.emu_app.specs.declared.refusal.Unread.TheVariants as unread
 use Rattle.emu_app.specs.Forms.{AreTokens}
@@ -98,6 +116,33 @@ cells_refusal (told_cell.Limit cell) = unread.Refused (Cells (cells.Limit cell))
 cells_refusal (told_cell.CellTwice cell) = unread.Refused (Cells (cells.CellTwice cell))
 cells_refusal told_cell.NoMemory = unread.NoMemory
 
+-- ## Groups
+
+-- a fault of groups, as the reader of groups tells it
+abbrev pub group_fault_of : GroupsFault → GroupFault
+group_fault_of groups.NotJson = told_group.NotJson
+group_fault_of groups.BadShape = told_group.BadShape
+group_fault_of groups.Limit = told_group.Limit
+group_fault_of (groups.NameTaken group) = told_group.NameTaken group
+group_fault_of (groups.EmptyGroup group) = told_group.EmptyGroup group
+group_fault_of (groups.NoPort group) = told_group.NoPort group
+group_fault_of (groups.PortTwice group) = told_group.PortTwice group
+
+-- a text stands for no groups of a design, and this is its first fault
+abbrev pub HasGroupsFault : Parts → List ℕ → GroupsFault → Type 0
+HasGroupsFault p text fault = groups_read.Answers p text (Err (group_fault_of fault))
+
+-- the answer to a text of which the reader of groups tells a fault
+abbrev pub groups_refusal : GroupFault → Unread
+groups_refusal told_group.NotJson = unread.Refused (Groups groups.NotJson)
+groups_refusal told_group.BadShape = unread.Refused (Groups groups.BadShape)
+groups_refusal told_group.Limit = unread.Refused (Groups groups.Limit)
+groups_refusal (told_group.NameTaken group) = unread.Refused (Groups (groups.NameTaken group))
+groups_refusal (told_group.EmptyGroup group) = unread.Refused (Groups (groups.EmptyGroup group))
+groups_refusal (told_group.NoPort group) = unread.Refused (Groups (groups.NoPort group))
+groups_refusal (told_group.PortTwice group) = unread.Refused (Groups (groups.PortTwice group))
+groups_refusal told_group.NoMemory = unread.NoMemory
+
 -- ## The board
 
 -- a fault of a board, as the reader of boards tells it
@@ -120,3 +165,51 @@ board_refusal told_board.Version = unread.Refused (Board board.Version)
 board_refusal told_board.Limit = unread.Refused (Board board.Limit)
 board_refusal (told_board.BadWire wire) = unread.Refused (Board (board.BadWire wire))
 board_refusal told_board.NoMemory = unread.NoMemory
+
+-- ## The opening
+
+-- a fault of an opening, as the reader of openings tells it
+abbrev pub opening_fault_of : OpeningsFault → OpeningFault
+opening_fault_of opening.NotJson = told_opening.NotJson
+opening_fault_of opening.BadShape = told_opening.BadShape
+opening_fault_of (opening.NoPort name) = told_opening.NoPort name
+opening_fault_of (opening.BadValue name) = told_opening.BadValue name
+opening_fault_of (opening.NoState path) = told_opening.NoState path
+opening_fault_of (opening.NoWord path) = told_opening.NoWord path
+
+-- a text stands for no opening of a design, and this is its first fault
+abbrev pub HasOpeningFault : Parts → List ℕ → OpeningsFault → Type 0
+HasOpeningFault p text fault = OpeningAnswers {X = PlainOpening} (λ o. o) p text (Err (opening_fault_of fault))
+
+-- the answer to a text of which the reader of openings tells a fault
+abbrev pub opening_refusal : OpeningFault → Unread
+opening_refusal told_opening.NotJson = unread.Refused (Opening opening.NotJson)
+opening_refusal told_opening.BadShape = unread.Refused (Opening opening.BadShape)
+opening_refusal (told_opening.NoPort name) = unread.Refused (Opening (opening.NoPort name))
+opening_refusal (told_opening.BadValue name) = unread.Refused (Opening (opening.BadValue name))
+opening_refusal (told_opening.NoState path) = unread.Refused (Opening (opening.NoState path))
+opening_refusal (told_opening.NoWord path) = unread.Refused (Opening (opening.NoWord path))
+opening_refusal told_opening.NoMemory = unread.NoMemory
+
+-- ## Events
+
+-- a fault of events, as the reader of events tells it
+abbrev pub event_fault_of : EventsFault → EventFault
+event_fault_of (events.BadLine at) = told_event.BadLine at
+event_fault_of (events.NoGroup at) = told_event.NoGroup at
+event_fault_of (events.NoPort at) = told_event.NoPort at
+event_fault_of (events.PortTwice at) = told_event.PortTwice at
+event_fault_of (events.BadValue at) = told_event.BadValue at
+
+-- a text tells no events of a design with these groups, and this is its first fault
+abbrev pub HasEventsFault : InputGroups → Parts → List ℕ → EventsFault → Type 0
+HasEventsFault v p text fault = EventAnswers v p.inputs text (Err (event_fault_of fault))
+
+-- the answer to a text of which the reader of events tells a fault
+abbrev pub events_refusal : EventFault → Unread
+events_refusal (told_event.BadLine at) = unread.Refused (Events (events.BadLine at))
+events_refusal (told_event.NoGroup at) = unread.Refused (Events (events.NoGroup at))
+events_refusal (told_event.NoPort at) = unread.Refused (Events (events.NoPort at))
+events_refusal (told_event.PortTwice at) = unread.Refused (Events (events.PortTwice at))
+events_refusal (told_event.BadValue at) = unread.Refused (Events (events.BadValue at))
+events_refusal told_event.NoMemory = unread.NoMemory

@@ -2,7 +2,7 @@
 -- The rules are told in docs/FORMATS.md, "Commands".
 use Rattle.std.specs.Prelude.{ℕ, List, Option, IfSome}
 use Rattle.emu_io.specs.Files.{Held}
-use Rattle.emu_machine.specs.declared.schedule.Schedule.{Schedule}
+use Rattle.emu_machine.specs.Results.{Results}
 use Rattle.emu_app.specs.declared.command.Command.{Command}
 use Rattle.emu_app.specs.declared.command.Command.TheVariants.{Check, Settle, Replay}
 use Rattle.emu_app.specs.Command.{CommandWords, IsCommand}
@@ -15,8 +15,8 @@ use Rattle.emu_app.specs.Answers.{Accepts, CanAnswer, HeldTrace, Rejects, Reject
 pub record HoldsAccepted (n : CommandWords) (held : Held) : Type 0 where
   pub texts : Texts
   pub are_held : AreHeld held n texts
-  pub schedule : Schedule
-  pub accepts : Accepts n.top texts schedule
+  pub results : Results
+  pub accepts : Accepts n.top texts results
 
 -- the texts that are held under the names stand for one case alone, and one of the rules fails for it
 pub record HoldsRejected (n : CommandWords) (held : Held) : Type 0 where

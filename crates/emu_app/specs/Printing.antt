@@ -8,6 +8,12 @@ use Rattle.emu_app.specs.declared.refusal.BoardsFault.{BoardsFault}
 use Rattle.emu_app.specs.declared.refusal.BoardsFault.TheVariants as board
 use Rattle.emu_app.specs.declared.refusal.CellsFault.{CellsFault}
 use Rattle.emu_app.specs.declared.refusal.CellsFault.TheVariants as cells
+use Rattle.emu_app.specs.declared.refusal.EventsFault.{EventsFault}
+use Rattle.emu_app.specs.declared.refusal.EventsFault.TheVariants as events
+use Rattle.emu_app.specs.declared.refusal.GroupsFault.{GroupsFault}
+use Rattle.emu_app.specs.declared.refusal.GroupsFault.TheVariants as groups
+use Rattle.emu_app.specs.declared.refusal.OpeningsFault.{OpeningsFault}
+use Rattle.emu_app.specs.declared.refusal.OpeningsFault.TheVariants as opening
 use Rattle.emu_app.specs.declared.refusal.TextFault.{TextFault}
 use Rattle.emu_app.specs.declared.refusal.TextFault.TheVariants.{BadByte, OpenComment, OpenAttribute, BadNumber, UnknownDigit, Directive, Expected, Unsupported, TooDeep}
 use Rattle.emu_app.specs.declared.refusal.Fault.{Fault}
@@ -56,6 +62,16 @@ cells_words (cells.TableSize cell) = codes "TableSize " ++ decimal cell
 cells_words (cells.Limit cell) = codes "Limit " ++ decimal cell
 cells_words (cells.CellTwice cell) = codes "CellTwice " ++ decimal cell
 
+-- a fault of groups, with the number of its group
+abbrev pub groups_words : GroupsFault → List ℕ
+groups_words groups.NotJson = codes "NotJson"
+groups_words groups.BadShape = codes "BadShape"
+groups_words groups.Limit = codes "Limit"
+groups_words (groups.NameTaken group) = codes "NameTaken " ++ decimal group
+groups_words (groups.EmptyGroup group) = codes "EmptyGroup " ++ decimal group
+groups_words (groups.NoPort group) = codes "NoPort " ++ decimal group
+groups_words (groups.PortTwice group) = codes "PortTwice " ++ decimal group
+
 -- a fault of a board, with the number of its wire
 abbrev pub board_words : BoardsFault → List ℕ
 board_words board.NotJson = codes "NotJson"
@@ -63,6 +79,23 @@ board_words board.BadShape = codes "BadShape"
 board_words board.Version = codes "Version"
 board_words board.Limit = codes "Limit"
 board_words (board.BadWire wire) = codes "BadWire " ++ decimal wire.place
+
+-- a fault of an opening, with the name of its port or the path of its element
+abbrev pub opening_words : OpeningsFault → List ℕ
+opening_words opening.NotJson = codes "NotJson"
+opening_words opening.BadShape = codes "BadShape"
+opening_words (opening.NoPort name) = codes "NoPort " ++ name
+opening_words (opening.BadValue name) = codes "BadValue " ++ name
+opening_words (opening.NoState path) = codes "NoState " ++ path
+opening_words (opening.NoWord path) = codes "NoWord " ++ path
+
+-- a fault of events, with the number of its line
+abbrev pub events_words : EventsFault → List ℕ
+events_words (events.BadLine at) = codes "BadLine " ++ decimal at
+events_words (events.NoGroup at) = codes "NoGroup " ++ decimal at
+events_words (events.NoPort at) = codes "NoPort " ++ decimal at
+events_words (events.PortTwice at) = codes "PortTwice " ++ decimal at
+events_words (events.BadValue at) = codes "BadValue " ++ decimal at
 
 -- `refused rank Cycle NAME ..`
 abbrev pub cycle_text : List (List ℕ) → List ℕ
@@ -72,13 +105,16 @@ cycle_text names = line (codes "refused rank Cycle" ++ flat_map (λ name. codes 
 abbrev pub refusal_text : Refusal → List ℕ
 refusal_text (refusal.Faulty fault) = fault_text_of fault
 refusal_text (refusal.Cells fault) = line (codes "refused cells " ++ cells_words fault)
-refusal_text (refusal.Board fault) = line (codes "refused board " ++ board_words fault)
 refusal_text (refusal.Cycle names) = cycle_text names
+refusal_text (refusal.Groups fault) = line (codes "refused groups " ++ groups_words fault)
+refusal_text (refusal.Board fault) = line (codes "refused board " ++ board_words fault)
+refusal_text (refusal.Opening fault) = line (codes "refused opening " ++ opening_words fault)
+refusal_text (refusal.Events fault) = line (codes "refused events " ++ events_words fault)
 refusal_text (refusal.NotYet what) = line (codes "refused " ++ label what ++ codes " NotYet")
 
 abbrev pub text_of : Answer → List ℕ
 text_of answer.Usage = line (codes "usage: emu check|compile|make|replay|settle")
-text_of (answer.Accepted schedule) = accepted_text schedule.frames
+text_of (answer.Accepted results) = accepted_text results.schedule.frames
 text_of answer.Rejected = line (codes "rejected")
 text_of (answer.TooLarge what) = line (codes "refused " ++ label what ++ codes " TooLarge")
 text_of (answer.Refused why) = refusal_text why
@@ -86,7 +122,7 @@ text_of (answer.ReadFault name) = line (codes "read fault " ++ name)
 
 abbrev pub status_of : Answer → Status
 status_of answer.Usage = status.Usage
-status_of (answer.Accepted schedule) = status.Ok
+status_of (answer.Accepted results) = status.Ok
 status_of answer.Rejected = status.Rejected
 status_of (answer.TooLarge what) = status.Refused
 status_of (answer.Refused why) = status.Refused

@@ -1,21 +1,19 @@
 -- What the texts of a command stand for, and which of them is the first that is refused.
--- The rules are told in docs/FORMATS.md, from "The design" to "The map".
+-- The rules are told in docs/FORMATS.md, from "The design" to "Openings and events".
 use Rattle.std.specs.Prelude.{◌≡◌, ◌<◌, ℕ, List, [], ◌∷◌, Result, Ok, Err}
 use Rattle.design_core.specs.declared.parts.Parts.{Parts}
 use Rattle.design_core.specs.Dependency.{IsRanked}
 use Rattle.design_core.specs.declared.values.Event.{Event}
-use Rattle.design_core.specs.declared.values.PortBit.{PortBit}
+use Rattle.domain_groups.specs.Events.{SaysEvents}
+use Rattle.domain_groups.specs.Groups.{InputGroups}
+use Rattle.settled_model.specs.declared.opening.Opening as opened
 use Rattle.cell_table.specs.declared.cell.Cell.{Cell}
 use Rattle.cell_table.specs.Table.{Stands}
-use Rattle.domain_groups.specs.NoGroups.{SaysNoGroups}
-use Rattle.event_replay.specs.Events.{SaysEvents}
-use Rattle.event_replay.specs.Openings.{SaysOpening}
-use Rattle.result_files.specs.PlainSchedule.{SaysSchedule}
 use Rattle.result_files.specs.PlainMap.{SaysMap}
 use Rattle.emu_machine.specs.declared.netlist.Chip.{Chip}
 use Rattle.emu_machine.specs.declared.schedule.Schedule.{Schedule}
 use Rattle.emu_machine.specs.declared.map.StateMap.{StateMap}
-use Rattle.emu_machine.specs.declared.results.Results.{Results}
+use Rattle.emu_machine.specs.Results.{Results}
 use Rattle.emu_machine.specs.Acceptance.{Case}
 use Rattle.schedule_check.specs.Verdict.{plain_case}
 use Rattle.emu_app.specs.declared.command.Command.{Command}
@@ -26,6 +24,9 @@ use Rattle.emu_app.specs.declared.plan_texts.OneChip.{OneChip}
 use Rattle.emu_app.specs.declared.recording.Recording.{Recording}
 use Rattle.emu_app.specs.declared.design_text.Parsed.{Parsed}
 use Rattle.emu_app.specs.declared.replay.Replayed.{Replayed}
+use Rattle.emu_app.specs.declared.refusal.EventsFault.{EventsFault}
+use Rattle.emu_app.specs.declared.refusal.GroupsFault.{GroupsFault}
+use Rattle.emu_app.specs.declared.refusal.OpeningsFault.{OpeningsFault}
 use Rattle.emu_app.specs.declared.refusal.Refusal.{Refusal}
 use Rattle.emu_app.specs.declared.refusal.Refusal.TheVariants as refusal
 use Rattle.emu_app.specs.declared.refusal.Unread.{Unread}
@@ -33,9 +34,9 @@ use Rattle.emu_app.specs.declared.refusal.Unread.TheVariants as unread
 use Rattle.emu_app.specs.What.{order}
 use Rattle.emu_app.specs.Command.{Reads}
 use Rattle.emu_app.specs.Fetching.{Texts}
-use Rattle.emu_app.specs.Faults.{HasBoardFault, HasCellsFault, HasFault}
+use Rattle.emu_app.specs.Faults.{HasBoardFault, HasCellsFault, HasEventsFault, HasFault, HasGroupsFault, HasOpeningFault}
 use Rattle.emu_app.specs.Cycles.{HasCycle}
-use Rattle.emu_app.specs.Forms.{IsTreeOf, HasCells, HasTree, SaysDesign, SaysBoard, SaysNetlist, SaysOtherBoard}
+use Rattle.emu_app.specs.Forms.{IsTreeOf, HasCells, HasTree, SaysDesign, SaysBoard, SaysGroups, SaysNetlist, SaysOpening, SaysOtherBoard, SaysShortSchedule}
 use Rattle.emu_app.specs.Runs.{DesignSays, RecordingSays}
 
 -- the text says nothing of its form
@@ -71,6 +72,13 @@ DesignMeans top text (Err (unread.Refused (refusal.NotYet what))) = (what ≡ De
 DesignMeans top text (Err (unread.Refused why)) = ⊥
 DesignMeans top text (Err unread.NoMemory) = Unit {0}
 
+-- by the answer of reading groups of a design
+abbrev pub GroupsMean : Parts → List ℕ → Result InputGroups Unread → Type 0
+GroupsMean p text (Ok v) = SaysGroups p text v
+GroupsMean p text (Err (unread.Refused (refusal.Groups fault))) = HasGroupsFault p text fault
+GroupsMean p text (Err (unread.Refused why)) = ⊥
+GroupsMean p text (Err unread.NoMemory) = Unit {0}
+
 -- by the answer of reading a board; one of several chips, or with a wire, is no fault of the text
 abbrev pub BoardMeans : List ℕ → Result OneChip Unread → Type 0
 BoardMeans text (Ok chip) = SaysBoard text chip
@@ -79,15 +87,35 @@ BoardMeans text (Err (unread.Refused (refusal.NotYet what))) = (what ≡ Board) 
 BoardMeans text (Err (unread.Refused why)) = ⊥
 BoardMeans text (Err unread.NoMemory) = Unit {0}
 
+-- by the answer of reading an opening of a design
+abbrev pub OpeningMeans : Parts → List ℕ → Result opened.Opening Unread → Type 0
+OpeningMeans p text (Ok o) = SaysOpening p text o
+OpeningMeans p text (Err (unread.Refused (refusal.Opening fault))) = HasOpeningFault p text fault
+OpeningMeans p text (Err (unread.Refused why)) = ⊥
+OpeningMeans p text (Err unread.NoMemory) = Unit {0}
+
+-- by the answer of reading events of a design with groups
+abbrev pub EventsMean : InputGroups → Parts → List ℕ → Result (List Event) Unread → Type 0
+EventsMean v p text (Ok events) = SaysEvents v p.inputs text events
+EventsMean v p text (Err (unread.Refused (refusal.Events fault))) = HasEventsFault v p text fault
+EventsMean v p text (Err (unread.Refused why)) = ⊥
+EventsMean v p text (Err unread.NoMemory) = Unit {0}
+
 -- the texts, with this name for the top, say this design, and a table of cells
 pub record FirstSay (top : List ℕ) (texts : Texts) (p : Parts) : Type 0 where
   pub design : SaysDesign top (texts Design) p
   pub cells : HasCells (texts Cells)
 
--- the texts, with this name for the top, say this design, which is ranked, a table of cells, no groups, and
--- this board
+-- the texts, with this name for the top, say this design, which is ranked, a table of cells, and no groups: the
+-- judge takes none yet
+pub record PlainSays (top : List ℕ) (texts : Texts) (p : Parts) : Type 0 where
+  pub groups : InputGroups
+  pub first : DesignSays top texts p groups
+  pub none : groups.groups ≡ []
+
+-- they say this, and this board
 pub record BoardSays (top : List ℕ) (texts : Texts) (p : Parts) (chip : OneChip) : Type 0 where
-  pub first : DesignSays top texts p
+  pub plain : PlainSays top texts p
   pub board : SaysBoard (texts Board) chip
 
 -- the texts say these results
@@ -96,7 +124,7 @@ pub record ResultsSay (texts : Texts) (results : Results) : Type 0 where
   pub schedule : Schedule
   pub map : StateMap
   pub says_netlist : SaysNetlist (texts Netlist) chip
-  pub says_schedule : SaysSchedule (texts ScheduleText) schedule
+  pub says_schedule : SaysShortSchedule (texts ScheduleText) schedule
   pub says_map : SaysMap (texts Map) chip map
   pub is : results ≡ record { net = chip ∷ []; schedule = schedule; map = map }
 
@@ -120,7 +148,8 @@ pub record StandForOne (top : List ℕ) (texts : Texts) (c : Case) : Type 0 wher
 
 -- the texts stand for a design and a recording of it
 pub record StandForSettle (top : List ℕ) (texts : Texts) (p : Parts) (r : Recording) : Type 0 where
-  pub first : DesignSays top texts p
+  pub groups : InputGroups
+  pub first : DesignSays top texts p groups
   pub recorded : RecordingSays texts p r
 
 -- the texts stand for this design and this recording alone
@@ -134,22 +163,46 @@ pub record StandForOneReplay (top : List ℕ) (texts : Texts) (c : Case) (r : Re
   pub recorded : RecordingSays texts c.design r
   pub one : (other : Recording) → RecordingSays texts c.design other → other ≡ r
 
--- A text is of the form that is read so far. A map is that of a netlist, and an opening and events are those
--- of a design.
-abbrev pub IsRead : List ℕ → Texts → What → Type 0
-IsRead top texts Design = (p : Parts) × SaysDesign top (texts Design) p × IsRanked p
-IsRead top texts Cells = HasCells (texts Cells)
-IsRead top texts Groups = SaysNoGroups (texts Groups)
-IsRead top texts Board = (chip : OneChip) × SaysBoard (texts Board) chip
-IsRead top texts Netlist = (chip : Chip) × SaysNetlist (texts Netlist) chip
-IsRead top texts ScheduleText = (schedule : Schedule) × SaysSchedule (texts ScheduleText) schedule
-IsRead top texts Map = (chip : Chip) × (map : StateMap) × SaysNetlist (texts Netlist) chip × SaysMap (texts Map) chip map
-IsRead top texts Opening = (p : Parts) × (values : List PortBit) × SaysDesign top (texts Design) p × SaysOpening p.inputs (texts Opening) values
-IsRead top texts Events = (p : Parts) × (events : List Event) × SaysDesign top (texts Design) p × SaysEvents p.inputs (texts Events) events
+-- the texts say a design of which this holds
+pub record OfDesign (top : List ℕ) (texts : Texts) (Holds : Parts → Type 0) : Type 0 where
+  pub design : Parts
+  pub says : SaysDesign top (texts Design) design
+  pub holds : Holds design
+
+-- the groups that a command takes: one that judges takes none yet
+abbrev pub TakesGroups : Command → InputGroups → Type 0
+TakesGroups Settle v = Unit {0}
+TakesGroups other v = v.groups ≡ []
+
+-- the text of groups stands for some that the command takes
+abbrev pub HasGroups : Command → Texts → Parts → Type 0
+HasGroups command texts p = (v : InputGroups) × SaysGroups p (texts Groups) v × TakesGroups command v
+
+-- the text of an opening stands for one
+abbrev pub HasOpening : Texts → Parts → Type 0
+HasOpening texts p = (o : opened.Opening) × SaysOpening p (texts Opening) o
+
+-- the text of events tells some of the groups that the text of groups stands for
+abbrev pub HasEvents : Texts → Parts → Type 0
+HasEvents texts p =
+    (v : InputGroups) × (events : List Event) × SaysGroups p (texts Groups) v × SaysEvents v p.inputs (texts Events) events
+
+-- A text is of the form that the command reads so far. A map is that of a netlist; groups, an opening and events
+-- are those of a design.
+abbrev pub IsRead : Command → List ℕ → Texts → What → Type 0
+IsRead command top texts Design = (p : Parts) × SaysDesign top (texts Design) p × IsRanked p
+IsRead command top texts Cells = HasCells (texts Cells)
+IsRead command top texts Groups = OfDesign top texts (HasGroups command texts)
+IsRead command top texts Board = (chip : OneChip) × SaysBoard (texts Board) chip
+IsRead command top texts Netlist = (chip : Chip) × SaysNetlist (texts Netlist) chip
+IsRead command top texts ScheduleText = (schedule : Schedule) × SaysShortSchedule (texts ScheduleText) schedule
+IsRead command top texts Map = (chip : Chip) × (map : StateMap) × SaysNetlist (texts Netlist) chip × SaysMap (texts Map) chip map
+IsRead command top texts Opening = OfDesign top texts (HasOpening texts)
+IsRead command top texts Events = OfDesign top texts (HasEvents texts)
 
 -- the texts before one, of those that the command reads, are of their forms
 abbrev pub EarlierAreRead : Command → List ℕ → Texts → What → Type 0
-EarlierAreRead command top texts what = (other : What) → Reads command other → order other < order what → IsRead top texts other
+EarlierAreRead command top texts what = (other : What) → Reads command other → order other < order what → IsRead command top texts other
 
 -- the design text has a tree, but describes no design
 pub record HasNoDesign (top text : List ℕ) : Type 0 where
@@ -160,7 +213,7 @@ pub record HasNoDesign (top text : List ℕ) : Type 0 where
 pub record FirstUnread (command : Command) (top : List ℕ) (texts : Texts) (what : What) : Type 0 where
   pub reads : Reads command what
   pub later : order Design < order what
-  pub here : IsRead top texts what → ⊥
+  pub here : IsRead command top texts what → ⊥
   pub earlier : EarlierAreRead command top texts what
 
 -- the design has a cycle, which these texts name
@@ -169,23 +222,47 @@ pub record GoesRound (top text : List ℕ) (names : List (List ℕ)) : Type 0 wh
   pub says : SaysDesign top text design
   pub cycle : HasCycle design names
 
+-- the text of groups stands for some groups
+abbrev pub HasSomeGroups : Texts → Parts → Type 0
+HasSomeGroups texts p = (v : InputGroups) × SaysGroups p (texts Groups) v × (v.groups ≡ [] → ⊥)
+
 -- Why a text is not of the form that is read so far. The design text has a tree, and a table of cells is read
--- before the tree is asked for a design; a board is one, and of several chips or with a wire; of all others
--- that are not of their form this is the first.
+-- before the tree is asked for a design; groups are groups, but some; a board is one, and of several chips or
+-- with a wire; of the texts of results that are not of their form this is the first. All other texts are read
+-- whole.
 abbrev pub NotYetMeans : Command → List ℕ → Texts → What → Type 0
 NotYetMeans command top texts Design = HasCells (texts Cells) × HasNoDesign top (texts Design)
 NotYetMeans command top texts Cells = ⊥
+NotYetMeans command top texts Groups = OfDesign top texts (HasSomeGroups texts) × FirstUnread command top texts Groups
 NotYetMeans command top texts Board = SaysOtherBoard (texts Board) × FirstUnread command top texts Board
+NotYetMeans command top texts Opening = ⊥
+NotYetMeans command top texts Events = ⊥
 NotYetMeans command top texts other = FirstUnread command top texts other
 
+-- the text of groups has this fault for the design that the texts say
+abbrev pub GroupsAreFaulty : List ℕ → Texts → GroupsFault → Type 0
+GroupsAreFaulty top texts fault = OfDesign top texts (λ p. HasGroupsFault p (texts Groups) fault)
+
+-- so has the text of an opening
+abbrev pub OpeningIsFaulty : List ℕ → Texts → OpeningsFault → Type 0
+OpeningIsFaulty top texts fault = OfDesign top texts (λ p. HasOpeningFault p (texts Opening) fault)
+
+-- and that of events, beside the groups that the texts say
+abbrev pub EventsAreFaulty : List ℕ → Texts → EventsFault → Type 0
+EventsAreFaulty top texts fault =
+    OfDesign top texts (λ p. (v : InputGroups) × SaysGroups p (texts Groups) v × HasEventsFault v p (texts Events) fault)
+
 -- Why the texts are refused, in the order of reading: the design text has no tree; or it has one, and the
--- cells are no table; or they are one, and the design has a cycle; or the texts before it are read, and the
--- board is none; or a text is not of its form.
+-- cells are no table; or they are one, and the design has a cycle; or all texts before this one are read, and
+-- it has a fault: the groups, the board, the opening or the events; or a text is not of its form.
 abbrev pub Refuses : Command → List ℕ → Texts → Refusal → Type 0
 Refuses command top texts (refusal.Faulty fault) = HasFault (texts Design) fault.kind fault.at
 Refuses command top texts (refusal.Cells fault) = HasTree (texts Design) × HasCellsFault (texts Cells) fault
 Refuses command top texts (refusal.Cycle names) = HasCells (texts Cells) × GoesRound top (texts Design) names
+Refuses command top texts (refusal.Groups fault) = GroupsAreFaulty top texts fault × FirstUnread command top texts Groups
 Refuses command top texts (refusal.Board fault) = HasBoardFault (texts Board) fault × FirstUnread command top texts Board
+Refuses command top texts (refusal.Opening fault) = OpeningIsFaulty top texts fault × FirstUnread command top texts Opening
+Refuses command top texts (refusal.Events fault) = EventsAreFaulty top texts fault × FirstUnread command top texts Events
 Refuses command top texts (refusal.NotYet what) = NotYetMeans command top texts what
 
 -- by the answer of reading several texts: what they say together, or why they are refused

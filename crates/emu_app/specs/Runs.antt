@@ -1,51 +1,49 @@
 -- What `settle` and `replay` run, and the traces that come of it.
 -- The rules are told in docs/FORMATS.md, "Commands" and "Traces", and docs/RULES.md, "History" and "Loaded".
-use Rattle.std.specs.Prelude.{◌≡◌, ◌≤◌, ℕ, Bool, List, [], ◌∷◌, drop, Contains}
+use Rattle.std.specs.Prelude.{◌≡◌, ◌≤◌, ℕ, Bool, List, ◌∷◌, drop, Contains}
 use Rattle.design_core.specs.declared.node.NodeId.{NodeId}
 use Rattle.design_core.specs.declared.parts.Parts.{Parts}
 use Rattle.design_core.specs.declared.values.Event.{Event}
-use Rattle.design_core.specs.declared.values.PortBit.{PortBit}
 use Rattle.design_core.specs.Dependency.{IsRanked}
 use Rattle.design_core.specs.Design.{IsDesign}
 use Rattle.design_core.specs.Event.{IsHistory, HasOneHistory}
 use Rattle.design_core.specs.Settled as settled
 use Rattle.design_core.specs.Valuation.{Valuation}
-use Rattle.domain_groups.specs.NoGroups.{SaysNoGroups}
-use Rattle.settled_model.specs.Opening.{stands_for}
-use Rattle.emu_machine.specs.Acceptance.{Case, Rule, Influences, Holds, IsAccepted, rule_number}
+use Rattle.domain_groups.specs.Events.{SaysEvents}
+use Rattle.domain_groups.specs.Groups.{InputGroups}
+use Rattle.domain_groups.specs.Traces.{settled_trace, machine_trace}
+use Rattle.settled_model.specs.Opening.{Opens, stands_for}
+use Rattle.emu_machine.specs.declared.rule.Rule.{Rule}
+use Rattle.emu_machine.specs.Acceptance.{Case, Influences, Holds, IsAccepted, rule_number}
 use Rattle.emu_machine.specs.Headline.{event_values}
 use Rattle.emu_machine.specs.Mapped.{IsLoaded}
 use Rattle.emu_machine.specs.State.{State, run_of}
 use Rattle.cycle_sim.specs.Loading.{FreeAreZero}
-use Rattle.event_replay.specs.Events.{SaysEvents}
-use Rattle.event_replay.specs.Openings.{SaysOpening}
-use Rattle.event_replay.specs.Runs.{settled_trace, machine_trace}
 use Rattle.event_replay.specs.Settings.{AreInputBits}
 use Rattle.emu_app.specs.declared.answer.Answer.{Answer}
 use Rattle.emu_app.specs.declared.answer.Answer.TheVariants as answer
 use Rattle.emu_app.specs.declared.recording.Recording.{Recording}
 use Rattle.emu_app.specs.declared.what.What.TheVariants.{Design, Cells, Groups, Opening, Events}
 use Rattle.emu_app.specs.Fetching.{Texts}
-use Rattle.emu_app.specs.Forms.{HasCells, SaysDesign}
+use Rattle.emu_app.specs.Forms.{HasCells, SaysDesign, SaysGroups, SaysOpening}
 
--- the texts say this design, which is ranked, a table of cells, and no groups
-pub record DesignSays (top : List ℕ) (texts : Texts) (p : Parts) : Type 0 where
+-- the texts say this design, which is ranked, a table of cells, and these groups of the design's inputs
+pub record DesignSays (top : List ℕ) (texts : Texts) (p : Parts) (v : InputGroups) : Type 0 where
   pub design : SaysDesign top (texts Design) p
   pub cells : HasCells (texts Cells)
   pub ranked : IsRanked p
-  pub groups : SaysNoGroups (texts Groups)
+  pub groups : SaysGroups p (texts Groups) v
 
--- the texts say this opening and these events of a design
+-- the texts say this opening of a design, and these events of the groups that they say
 pub record RecordingSays (texts : Texts) (p : Parts) (r : Recording) : Type 0 where
-  pub opening : SaysOpening p.inputs (texts Opening) r.inputs
-  pub events : SaysEvents p.inputs (texts Events) r.events
+  pub opening : SaysOpening p (texts Opening) r.opening
+  pub groups : InputGroups
+  pub says_groups : SaysGroups p (texts Groups) groups
+  pub events : SaysEvents groups p.inputs (texts Events) r.events
 
--- what an opening gives that names inputs alone: each flip-flop, latch and word is 0
-abbrev pub opened_with : List PortBit → settled.Opening
-opened_with inputs = stands_for (record { inputs = inputs; ones = []; words = [] })
-
+-- what the opening gives to everything: what it does not name is 0
 abbrev pub opening_of : Recording → settled.Opening
-opening_of r = opened_with r.inputs
+opening_of r = stands_for r.opening
 
 -- the trace of the one history of an opening and events
 pub record IsHistoryTrace (p : Parts) (r : Recording) (trace : List ℕ) : Type 0 where
@@ -78,12 +76,11 @@ pub record CanReplay (c : Case) : Type 0 where
 
 -- ## Inside the commands
 
--- the opening and each event give values to input bits of the design, to each bit at most one, and each
--- event names the group of all inputs, whose number is 0
-pub record HasInputBits (p : Parts) (r : Recording) : Type 0 where
-  pub opening : AreInputBits p r.inputs
+-- the opening is one of the design, and each event gives values to input bits of the design, to each bit at
+-- most one
+pub record FitsDesign (p : Parts) (r : Recording) : Type 0 where
+  pub opening : Opens p r.opening
   pub events : (event : Event) → Contains r.events event → AreInputBits p event.values
-  pub groups : (event : Event) → Contains r.events event → event.group.place ≡ 0
 
 -- a run comes to a trace and to no answer
 abbrev pub NoAnswer : Answer → Type 0

@@ -1,13 +1,15 @@
 //! What a command answers: a status and a text.
 
 ghost use Rattle.std.specs.Prelude.{◌++◌, ◌≡◌, IfOk, OnErr, OnOk, codes, decimal};
-ghost use Rattle.emu_app.specs.Printing.{accepted_text, board_words, cells_words, cycle_text, fault_name, fault_text_of, frame_line, line, refusal_text, status_of, text_of};
+ghost use Rattle.emu_app.specs.Printing.{accepted_text, board_words, cells_words, cycle_text, events_words, fault_name, fault_text_of, frame_line, groups_words, line, opening_words, refusal_text, status_of, text_of};
 
-use crate::refusal::{BoardsFault, CellsFault, Fault, Refusal, TextFault};
+use crate::refusal::{
+    BoardsFault, CellsFault, EventsFault, Fault, GroupsFault, OpeningsFault, Refusal, TextFault,
+};
 use crate::status::Status;
 use crate::what::What;
 use emu_io::{NoMemory, Text};
-use emu_machine::{Frame, Schedule};
+use emu_machine::{Frame, Results};
 use id_arena::Key;
 use itoa::Buffer;
 use std::alloc::Global;
@@ -17,8 +19,8 @@ use std::alloc::Global;
 pub enum Answer {
     /// The words are those of no command.
     Usage,
-    /// The results are accepted, with this schedule.
-    Accepted { schedule: Schedule },
+    /// These results are accepted.
+    Accepted { results: Results },
     /// A rule of acceptance fails.
     Rejected,
     /// This text is longer than its limit.
@@ -54,7 +56,10 @@ impl Answer {
                 b"",
                 b"",
             ),
-            Answer::Accepted { schedule } => accepted_text(alloc, schedule.frames.as_slice()),
+            Answer::Accepted { results } => accepted_text(
+                alloc,
+                results.schedule().frames.as_slice(),
+            ),
             Answer::Rejected => line(alloc, b"rejected", b"", b""),
             Answer::TooLarge(what) => line(alloc, b"refused ", what.label(), b" TooLarge"),
             Answer::Refused(why) => refusal_text(alloc, why),
@@ -113,8 +118,11 @@ fn refusal_text(alloc: Global, why: &Refusal) -> Result<Vec<u8>, NoMemory>
     match why {
         Refusal::Faulty(fault) => fault_text(alloc, fault),
         Refusal::Cells(fault) => cells_text(alloc, *fault),
-        Refusal::Board(fault) => board_text(alloc, *fault),
         Refusal::Cycle(names) => cycle_text(alloc, names.as_slice()),
+        Refusal::Groups(fault) => groups_text(alloc, *fault),
+        Refusal::Board(fault) => board_text(alloc, *fault),
+        Refusal::Opening(fault) => opening_text(alloc, fault),
+        Refusal::Events(fault) => events_text(alloc, *fault),
         Refusal::NotYet(what) => line(alloc, b"refused ", what.label(), b" NotYet"),
     }
 }
@@ -147,6 +155,28 @@ fn cells_text(alloc: Global, fault: CellsFault) -> Result<Vec<u8>, NoMemory>
     }
 }
 
+/// The line that names a fault of groups.
+fn groups_text(alloc: Global, fault: GroupsFault) -> Result<Vec<u8>, NoMemory>
+    ensures { IfOk result (λ text. text.items ≡ line (codes "refused groups " ++ groups_words fault)) }
+{
+    let refused = b"refused groups ".as_slice();
+    match fault {
+        GroupsFault::NotJson => line(alloc, refused, b"NotJson", b""),
+        GroupsFault::BadShape => line(alloc, refused, b"BadShape", b""),
+        GroupsFault::Limit => line(alloc, refused, b"Limit", b""),
+        GroupsFault::NameTaken { group } => {
+            numbered(alloc, refused, b"NameTaken ", u64::from(group))
+        }
+        GroupsFault::EmptyGroup { group } => {
+            numbered(alloc, refused, b"EmptyGroup ", u64::from(group))
+        }
+        GroupsFault::NoPort { group } => numbered(alloc, refused, b"NoPort ", u64::from(group)),
+        GroupsFault::PortTwice { group } => {
+            numbered(alloc, refused, b"PortTwice ", u64::from(group))
+        }
+    }
+}
+
 /// The line that names a fault of a board.
 fn board_text(alloc: Global, fault: BoardsFault) -> Result<Vec<u8>, NoMemory>
     ensures { IfOk result (λ text. text.items ≡ line (codes "refused board " ++ board_words fault)) }
@@ -160,6 +190,35 @@ fn board_text(alloc: Global, fault: BoardsFault) -> Result<Vec<u8>, NoMemory>
         BoardsFault::BadWire { wire } => {
             numbered(alloc, refused, b"BadWire ", u64::from(wire.place()))
         }
+    }
+}
+
+/// The line that names a fault of an opening.
+fn opening_text(alloc: Global, fault: &OpeningsFault) -> Result<Vec<u8>, NoMemory>
+    ensures { IfOk result (λ text. text.items ≡ line (codes "refused opening " ++ opening_words fault.now)) }
+{
+    let refused = b"refused opening ".as_slice();
+    match fault {
+        OpeningsFault::NotJson => line(alloc, refused, b"NotJson", b""),
+        OpeningsFault::BadShape => line(alloc, refused, b"BadShape", b""),
+        OpeningsFault::NoPort { name } => line(alloc, refused, b"NoPort ", name.bytes()),
+        OpeningsFault::BadValue { name } => line(alloc, refused, b"BadValue ", name.bytes()),
+        OpeningsFault::NoState { path } => line(alloc, refused, b"NoState ", path.bytes()),
+        OpeningsFault::NoWord { path } => line(alloc, refused, b"NoWord ", path.bytes()),
+    }
+}
+
+/// The line that names a fault of events.
+fn events_text(alloc: Global, fault: EventsFault) -> Result<Vec<u8>, NoMemory>
+    ensures { IfOk result (λ text. text.items ≡ line (codes "refused events " ++ events_words fault)) }
+{
+    let refused = b"refused events ".as_slice();
+    match fault {
+        EventsFault::BadLine { line: at } => numbered(alloc, refused, b"BadLine ", at),
+        EventsFault::NoGroup { line: at } => numbered(alloc, refused, b"NoGroup ", at),
+        EventsFault::NoPort { line: at } => numbered(alloc, refused, b"NoPort ", at),
+        EventsFault::PortTwice { line: at } => numbered(alloc, refused, b"PortTwice ", at),
+        EventsFault::BadValue { line: at } => numbered(alloc, refused, b"BadValue ", at),
     }
 }
 

@@ -3,8 +3,6 @@
 ghost use Rattle.std.specs.Prelude.{◌<◌, ◌≡◌, IfOk, length};
 ghost use Rattle.design_core.specs.Dependency.{IsRanked};
 ghost use Rattle.design_core.specs.Plain.{IsPlain};
-ghost use Rattle.emu_machine.specs.Law.{MapFits};
-ghost use Rattle.emu_machine.specs.Netlist.{IsNetlist};
 ghost use Rattle.emu_machine.specs.Plain.{IsPlainResults};
 ghost use Rattle.emu_app.specs.Answers.{JudgeMeans};
 ghost use Rattle.emu_app.specs.Cases.{JudgesAll};
@@ -16,7 +14,7 @@ use crate::answer::Answer;
 use crate::command::Command;
 use crate::laws::texts_tell_cases_apart;
 use crate::plan_texts::OneChip;
-use crate::reading::{read_board_text, read_first, read_order, read_results};
+use crate::reading::{read_board_text, read_first, read_plain_order, read_results};
 use crate::refusal::Unread;
 use accepted_law::acceptance::accepted_agrees;
 use design_core::Design;
@@ -53,7 +51,7 @@ fn judge_read(alloc: Global, top: &[u8], texts: &List<Text>) -> Result<Answer, U
     Ok(found)
 }
 
-/// The board, where the design has an order, which is not kept.
+/// The board, where the design has an order and no groups; neither is kept.
 fn read_board_texts(
     alloc: Global,
     top: &[u8],
@@ -65,7 +63,7 @@ fn read_board_texts(
     ensures means { AllMean Command.Check top.now (texts_of Command.Check texts.now) (BoardSays top.now (texts_of Command.Check texts.now) design.now) result }
     ensures some { IfOk result (λ chip. 0 < chip.slots) }
 {
-    let _ranked = read_order(alloc, Command::Check, top, texts, design)?;
+    let _read = read_plain_order(alloc, Command::Check, top, texts, design)?;
     read_board_text(alloc, Command::Check, top, texts, design)
 }
 
@@ -79,16 +77,13 @@ fn judge_case(
     requires plain { IsPlain design.now }
     requires ranked { IsRanked design.now }
     requires results { IsPlainResults results }
-    requires mapped { MapFits results }
-    requires netlist { IsNetlist results.net }
     ensures { IfOk result (JudgesAll design.now chip results) }
 {
     accepted_agrees();
     design.stands();
+    results.stand();
     match judge(alloc, design, chip.room, chip.slots, &results)? {
-        Verdict::Accepted => Ok(Answer::Accepted {
-            schedule: results.schedule,
-        }),
+        Verdict::Accepted => Ok(Answer::Accepted { results }),
         Verdict::Rejected { .. } => Ok(Answer::Rejected),
     }
 }

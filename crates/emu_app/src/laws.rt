@@ -20,8 +20,9 @@ pub fn texts_tell_cases_apart()
 pub fn texts_tell_recordings_apart()
     ensures { TextsTellRecordingsApart }
 {
-    event_replay::openings_are_told_apart();
-    event_replay::events_are_told_apart();
+    domain_groups::each_text_has_one_answer();
+    domain_groups::each_opening_has_one_answer();
+    domain_groups::each_recording_has_one_answer();
 }
 
 /// Texts stand for one design and one recording of it at most.

@@ -15,6 +15,7 @@ mod command;
 mod design_text;
 mod ending;
 mod fetch;
+mod groups_text;
 mod laws;
 mod plan_texts;
 mod ranking;

@@ -1,27 +1,14 @@
-//! Reading the texts of groups and of the board.
+//! Reading the text of the board.
 
 ghost use Rattle.std.specs.Prelude.{◌<◌, ◌≡◌, ◌∷◌, [], ℕ, IfOk, MatchOption};
-ghost use Rattle.domain_groups.specs.NoGroups.{SaysNoGroups};
 ghost use Rattle.emu_app.specs.Faults.{board_refusal};
-ghost use Rattle.emu_app.specs.Reading.{BoardMeans, Means};
+ghost use Rattle.emu_app.specs.Reading.{BoardMeans};
 
 use crate::refusal::{BoardsFault, Refusal, Unread};
 use crate::what::What;
 use board_model::{Board, BoardFault, read_board};
-use domain_groups::{NoGroupsFault, read_no_groups};
 use id_arena::{ChipId, Key};
 use std::alloc::Global;
-
-/// Reads a text that names no group.
-pub fn read_groups(alloc: Global, text: &[u8]) -> Result<(), Unread>
-    ensures { Means What.Groups (λ _. SaysNoGroups text.now) result }
-{
-    match read_no_groups(alloc, text) {
-        Ok(()) => Ok(()),
-        Err(NoGroupsFault::NotYet) => Err(Unread::Refused(Refusal::NotYet(What::Groups))),
-        Err(NoGroupsFault::NoMemory) => Err(Unread::NoMemory),
-    }
-}
 
 /// A board of one chip without wires.
 #[derive(Clone, Copy, Debug, Drop, PartialEq, Eq)]

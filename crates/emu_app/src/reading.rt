@@ -1,24 +1,26 @@
 //! Reading the texts of a command, in their order; the first that is refused decides.
 
-ghost use Rattle.std.specs.Prelude.{◌<◌, ◌≡◌, IfOk, length};
+ghost use Rattle.std.specs.Prelude.{◌<◌, ◌≡◌, [], IfOk, length};
 ghost use Rattle.emu_machine.specs.Plain.{IsPlainResults};
-ghost use Rattle.emu_app.specs.Command.{Reads, text_count};
+ghost use Rattle.emu_app.specs.Command.{Judges, Reads, text_count};
 ghost use Rattle.emu_app.specs.Fetching.{AreWithin, texts_of};
-ghost use Rattle.emu_app.specs.Forms.{SaysDesign};
-ghost use Rattle.emu_app.specs.Reading.{AllMean, BoardSays, EarlierAreRead, FirstSay, ResultsSay};
-ghost use Rattle.emu_app.specs.Runs.{DesignSays, HasInputBits, RecordingSays};
+ghost use Rattle.emu_app.specs.Forms.{SaysDesign, SaysGroups};
+ghost use Rattle.emu_app.specs.Reading.{AllMean, BoardSays, EarlierAreRead, FirstSay, PlainSays, ResultsSay};
+ghost use Rattle.emu_app.specs.Runs.{DesignSays, FitsDesign, RecordingSays};
 
 use crate::cells_text::read_table;
 use crate::command::Command;
 use crate::design_text::{read_design, read_tree};
-use crate::plan_texts::{OneChip, read_groups, read_one_chip};
+use crate::groups_text::read_group_list;
+use crate::plan_texts::{OneChip, read_one_chip};
 use crate::ranking::rank_design;
-use crate::recording::{Recording, read_event_lines, read_inputs};
-use crate::refusal::Unread;
-use crate::result_texts::{read_map, read_netlist, read_schedule};
+use crate::recording::{Recording, read_event_lines, read_opening_text};
+use crate::refusal::{Refusal, Unread};
+use crate::result_texts::{built, read_map, read_netlist, read_schedule};
 use crate::what::What;
 use clock_rank::Ranked;
 use design_core::Design;
+use domain_groups::Groups;
 use emu_io::{List, Text};
 use emu_machine::Results;
 use std::alloc::Global;
@@ -53,22 +55,50 @@ pub fn read_first(
     Ok(design)
 }
 
-/// The design with its nodes in order, where the texts say no groups.
+/// The design with its nodes in order, and the groups of its inputs that the texts say.
 pub fn read_order<'d>(
     alloc: Global,
     command: Command,
     top: &[u8],
     texts: &List<Text>,
     design: &'d Design,
-) -> Result<Ranked<'d>, Unread>
+) -> Result<(Ranked<'d>, Groups), Unread>
     requires count { length texts.now ≡ text_count command }
     requires groups { Reads command What.Groups }
     requires before { FirstSay top.now (texts_of command texts.now) design.now }
-    ensures { AllMean command top.now (texts_of command texts.now) (λ ranked. (ranked.design ≡ design.now) × DesignSays top.now (texts_of command texts.now) design.now) result }
+    ensures { AllMean command top.now (texts_of command texts.now) (λ read. (read.0.design ≡ design.now) × DesignSays top.now (texts_of command texts.now) design.now read.1) result }
 {
+    verilog_lex::each_text_has_one_answer();
+    verilog_tree::has_one_tree();
+    elaborator::trees_tell_designs_apart();
+    domain_groups::each_text_has_one_answer();
     let ranked = rank_design(alloc, design)?;
-    read_groups(alloc, text_at(command, texts, What::Groups))?;
-    Ok(ranked)
+    let groups = read_group_list(alloc, text_at(command, texts, What::Groups), design)?;
+    Ok((ranked, groups))
+}
+
+/// The same for a command that judges, where the texts say no groups: the judge takes none yet.
+pub fn read_plain_order<'d>(
+    alloc: Global,
+    command: Command,
+    top: &[u8],
+    texts: &List<Text>,
+    design: &'d Design,
+) -> Result<(Ranked<'d>, Groups), Unread>
+    requires count { length texts.now ≡ text_count command }
+    requires judges { Judges command }
+    requires before { FirstSay top.now (texts_of command texts.now) design.now }
+    ensures { AllMean command top.now (texts_of command texts.now) (λ read. (read.0.design ≡ design.now) × DesignSays top.now (texts_of command texts.now) design.now read.1 × (read.1.groups ≡ [])) result }
+{
+    verilog_lex::each_text_has_one_answer();
+    verilog_tree::has_one_tree();
+    elaborator::trees_tell_designs_apart();
+    domain_groups::each_text_has_one_answer();
+    let (ranked, groups) = read_order(alloc, command, top, texts, design)?;
+    if groups.len() > 0 {
+        return Err(Unread::Refused(Refusal::NotYet(What::Groups)));
+    }
+    Ok((ranked, groups))
 }
 
 /// The board that the texts say.
@@ -81,7 +111,7 @@ pub fn read_board_text(
 ) -> Result<OneChip, Unread>
     requires count { length texts.now ≡ text_count command }
     requires board { Reads command What.Board }
-    requires before { DesignSays top.now (texts_of command texts.now) design.now }
+    requires before { PlainSays top.now (texts_of command texts.now) design.now }
     ensures means { AllMean command top.now (texts_of command texts.now) (BoardSays top.now (texts_of command texts.now) design.now) result }
     ensures some { IfOk result (λ chip. 0 < chip.slots) }
 {
@@ -116,9 +146,8 @@ pub fn read_results(
     let netlist = read_netlist(alloc, text_at(command, texts, What::Netlist))?;
     let schedule = read_schedule(alloc, text_at(command, texts, What::Schedule))?;
     let map = read_map(alloc, text_at(command, texts, What::Map), &netlist)?;
-    let mut net = List::new(alloc);
-    net.push(netlist)?;
-    Ok(Results { net, schedule, map })
+    let results = built(alloc, netlist, schedule, map)?;
+    Ok(results)
 }
 
 /// The opening and the events that the texts say, where those before them are read.
@@ -128,19 +157,24 @@ pub fn read_recording(
     top: &[u8],
     texts: &List<Text>,
     design: &Design,
+    groups: &Groups,
 ) -> Result<Recording, Unread>
     requires count { length texts.now ≡ text_count command }
     requires opening { Reads command What.Opening }
     requires events { Reads command What.Events }
     requires design { SaysDesign top.now (texts_of command texts.now What.Design) design.now }
+    requires groups { SaysGroups design.now (texts_of command texts.now What.Groups) groups.now }
     requires before { EarlierAreRead command top.now (texts_of command texts.now) What.Opening }
     ensures means { AllMean command top.now (texts_of command texts.now) (RecordingSays (texts_of command texts.now) design.now) result }
-    ensures bits { IfOk result (HasInputBits design.now) }
+    ensures fits { IfOk result (FitsDesign design.now) }
 {
     verilog_lex::each_text_has_one_answer();
     verilog_tree::has_one_tree();
     elaborator::trees_tell_designs_apart();
-    let inputs = read_inputs(alloc, text_at(command, texts, What::Opening), design)?;
-    let events = read_event_lines(alloc, text_at(command, texts, What::Events), design)?;
-    Ok(Recording { inputs, events })
+    domain_groups::each_text_has_one_answer();
+    domain_groups::each_opening_has_one_answer();
+    domain_groups::each_recording_has_one_answer();
+    let opening = read_opening_text(alloc, text_at(command, texts, What::Opening), design)?;
+    let events = read_event_lines(alloc, text_at(command, texts, What::Events), design, groups)?;
+    Ok(Recording { opening, events })
 }

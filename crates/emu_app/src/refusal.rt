@@ -53,6 +53,25 @@ pub enum CellsFault {
     CellTwice { cell: u32 },
 }
 
+/// What can be wrong with groups; `group` is a group's place among them, from 0.
+#[derive(Clone, Copy, Debug, Drop, PartialEq, Eq)]
+pub enum GroupsFault {
+    /// The text is no JSON.
+    NotJson,
+    /// It is not of the form.
+    BadShape,
+    /// There are more than 32 groups.
+    Limit,
+    /// An earlier group has the name.
+    NameTaken { group: u32 },
+    /// The group has no port.
+    EmptyGroup { group: u32 },
+    /// A port of the group is no input port of the design.
+    NoPort { group: u32 },
+    /// A port of the group stands at an earlier place.
+    PortTwice { group: u32 },
+}
+
 /// What can be wrong with a board.
 #[derive(Clone, Copy, Debug, Drop, PartialEq, Eq)]
 pub enum BoardsFault {
@@ -68,6 +87,38 @@ pub enum BoardsFault {
     BadWire { wire: WireId },
 }
 
+/// What can be wrong with an opening.
+#[derive(Debug, Drop)]
+pub enum OpeningsFault {
+    /// The text is no JSON.
+    NotJson,
+    /// It is not of the form.
+    BadShape,
+    /// No input port has this name.
+    NoPort { name: Text },
+    /// The value for this port, or for a word of the memory of this path, is none or does not fit.
+    BadValue { name: Text },
+    /// No flip-flop and no latch has this path.
+    NoState { path: Text },
+    /// No memory has this path, or that memory has no such address.
+    NoWord { path: Text },
+}
+
+/// What can be wrong with events; `line` is the number of the line, from 1.
+#[derive(Clone, Copy, Debug, Drop, PartialEq, Eq)]
+pub enum EventsFault {
+    /// The line has a byte that none may have, or a word behind the first without `=`.
+    BadLine { line: u64 },
+    /// Its first word names no group.
+    NoGroup { line: u64 },
+    /// A word names no input port of the group.
+    NoPort { line: u64 },
+    /// A word names a port that a word before it names.
+    PortTwice { line: u64 },
+    /// The value for a port is none or does not fit.
+    BadValue { line: u64 },
+}
+
 /// Why a text is refused.
 #[derive(Debug, Drop)]
 pub enum Refusal {
@@ -75,10 +126,16 @@ pub enum Refusal {
     Faulty(Fault),
     /// The table of cells has this fault.
     Cells(CellsFault),
-    /// The board has this fault.
-    Board(BoardsFault),
     /// The design's nodes go in a cycle, whose names these are.
     Cycle(List<Text>),
+    /// The groups have this fault.
+    Groups(GroupsFault),
+    /// The board has this fault.
+    Board(BoardsFault),
+    /// The opening has this fault.
+    Opening(OpeningsFault),
+    /// The events have this fault.
+    Events(EventsFault),
     /// This text is not of the form that is read so far.
     NotYet(What),
 }

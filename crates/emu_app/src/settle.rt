@@ -5,15 +5,16 @@ ghost use Rattle.emu_app.specs.Answers.{Comes, SettleMeans, TraceMeans};
 ghost use Rattle.emu_app.specs.Command.{text_count};
 ghost use Rattle.emu_app.specs.Fetching.{AreWithin, texts_of};
 ghost use Rattle.emu_app.specs.Reading.{FirstSay};
-ghost use Rattle.emu_app.specs.Runs.{DesignSays, HasInputBits, IsHistoryTrace, NoAnswer};
+ghost use Rattle.emu_app.specs.Runs.{DesignSays, FitsDesign, IsHistoryTrace, NoAnswer};
 
 use crate::command::Command;
 use crate::ending::{Ending, ending_of};
 use crate::laws::texts_tell_runs_apart;
 use crate::reading::{read_first, read_order, read_recording};
-use crate::recording::{Recording, opening_with};
+use crate::recording::Recording;
 use clock_rank::Ranked;
 use design_core::Design;
+use domain_groups::Groups;
 use emu_io::{List, Sink, StoreFault, Text};
 use event_replay::settle_lines;
 use settled_model::Settled;
@@ -49,25 +50,26 @@ fn settle_design<O: Sink>(
     ensures { Comes (SettleMeans top.now (texts_of Command.Settle texts.now)) (TraceMeans Command.Settle top.now (texts_of Command.Settle texts.now)) (O.written out.old) (O.written out.new) (O.faults out.old) (O.faults out.new) result }
 {
     match read_order(alloc, Command::Settle, top, texts, design) {
-        Ok(ranked) => settle_ranked(alloc, top, texts, &ranked, out),
+        Ok((ranked, groups)) => settle_ranked(alloc, top, texts, &ranked, &groups, out),
         Err(why) => ending_of(why),
     }
 }
 
-/// The same, for the design with its nodes in order.
+/// The same, for the design with its nodes in order, and the groups of its inputs.
 fn settle_ranked<O: Sink>(
     alloc: Global,
     top: &[u8],
     texts: &List<Text>,
     ranked: &Ranked<'_>,
+    groups: &Groups,
     out: &mut O,
 ) -> Result<Ending, StoreFault>
     requires count { length texts.now ≡ text_count Command.Settle }
-    requires says { DesignSays top.now (texts_of Command.Settle texts.now) ranked.now.design }
+    requires says { DesignSays top.now (texts_of Command.Settle texts.now) ranked.now.design groups.now }
     ensures { Comes (SettleMeans top.now (texts_of Command.Settle texts.now)) (TraceMeans Command.Settle top.now (texts_of Command.Settle texts.now)) (O.written out.old) (O.written out.new) (O.faults out.old) (O.faults out.new) result }
 {
     texts_tell_runs_apart();
-    match read_recording(alloc, Command::Settle, top, texts, ranked.design()) {
+    match read_recording(alloc, Command::Settle, top, texts, ranked.design(), groups) {
         Ok(recording) => settle_recording(alloc, ranked, recording, out),
         Err(why) => ending_of(why),
     }
@@ -80,20 +82,18 @@ pub fn settle_recording<O: Sink>(
     recording: Recording,
     out: &mut O,
 ) -> Result<Ending, StoreFault>
-    requires bits { HasInputBits ranked.now.design recording }
+    requires fits { FitsDesign ranked.now.design recording }
     ensures { Comes NoAnswer (IsHistoryTrace ranked.now.design recording) (O.written out.old) (O.written out.new) (O.faults out.old) (O.faults out.new) result }
 {
     one_history::histories::one_history();
     settled_model::openings_fit();
-    history_law::drivers::input_is_input_bit();
     trace_law::traces::settled_traces();
     trace_law::traces::settled_trace_is_one();
     trace_law::traces::broken_traces();
     let design = ranked.design();
     design.stands();
     ranked.stands();
-    let opening = opening_with(alloc, recording.inputs);
-    let Ok(mut settled) = Settled::open(alloc, ranked, &opening) else {
+    let Ok(mut settled) = Settled::open(alloc, ranked, &recording.opening) else {
         return Err(StoreFault::NoMemory);
     };
     match settle_lines(alloc, &mut settled, design, &recording.events, out) {

@@ -9,8 +9,7 @@ use Rattle.emu_app.specs.Forms.{SaysDesign}
 use Rattle.emu_app.specs.Reading.{ReplayedSays, StandForOneReplay, case_of}
 use Rattle.emu_app.specs.Runs.{IsRun, IsUnfit}
 use Rattle.emu_app.proofs.Comes.{comes_as}
-use Rattle.emu_app.proofs.OneCases.{results_stand}
-use Rattle.emu_app.proofs.Replaying.{one_replay, run_means, unfit_means}
+use Rattle.emu_app.proofs.Replaying.{events_fit, one_replay, run_means, unfit_means}
 use Rattle.emu_app.proofs.replay.replay_ranked.Goals as goal
 
 pub replay_case-requires-clause-plain : goal.replay_case-requires-clause-plain
@@ -18,11 +17,12 @@ replay_case-requires-clause-plain g c =
     let says : SaysDesign c.args.top.now (texts_of Replay c.args.texts.now Design) c.args.ranked.now.design = c.requires.says.design in
     c.gate_designs_are_plain.ensures (texts_of Replay c.args.texts.now Design) says.tokens says.tree c.args.top.now c.args.ranked.now.design says.describes
 
-pub replay_case-requires-clause-mapped : goal.replay_case-requires-clause-mapped
-replay_case-requires-clause-mapped g c = (results_stand (texts_of Replay c.args.texts.now) c.in-Ok.replayed.results c.in-Ok.ensures.means.results).0
-
-pub replay_case-requires-clause-netlist : goal.replay_case-requires-clause-netlist
-replay_case-requires-clause-netlist g c = (results_stand (texts_of Replay c.args.texts.now) c.in-Ok.replayed.results c.in-Ok.ensures.means.results).1
+pub replay_case-requires-clause-events : goal.replay_case-requires-clause-events
+replay_case-requires-clause-events g c =
+    let texts : Texts = texts_of Replay c.args.texts.now in
+    let says : ReplayedSays c.args.top.now texts c.args.ranked.now.design c.in-Ok.replayed =
+    subst (λ (q : Parts). ReplayedSays c.args.top.now texts q c.in-Ok.replayed) c.design.ensures c.in-Ok.ensures.means in
+    events_fit c.each_text_has_one_answer.ensures c.recorded_events_fit.ensures c.args.top.now texts c.args.ranked.now.design c.in-Ok.replayed says
 
 pub returns-in-Ok : goal.returns-in-Ok
 returns-in-Ok g c =
