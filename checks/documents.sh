@@ -96,6 +96,15 @@ long_files() {
         awk '$2 != "total" && $1 > 800 {print $2 " has " $1 " lines"}'
 }
 
+# recorded commands without a line above that says why they are there, and their texts that no command names
+untold_cases() {
+    cases=crates/emu_cases/data
+    awk '/^#|^$/ {told = /^# /; next} !told {print "crates/emu_cases/data/cases.txt: line " NR " has no reason above it"}' \
+        $cases/cases.txt
+    git ls-files "$cases/*/*" | sed "s|^$cases/||" | sort |
+        comm -23 - <(tr ' ' '\n' <$cases/cases.txt | sort -u) | sed "s|^|$cases: no command names |"
+}
+
 say "$(missing_headings)"
 say "$(missing_cited)"
 say "$(missing_links)"
@@ -104,6 +113,7 @@ say "$(missing_clauses)"
 say "$(wrong_map)"
 say "$(unmapped_definitions)"
 say "$(wrong_faults)"
+say "$(untold_cases)"
 say "$(strange_words)"
 say "$(long_files)"
 diff -r examples/inverter crates/emu/data -x run.sh || say 'crates/emu/data differs from examples/inverter'

@@ -1,10 +1,10 @@
 //! Recorded commands: runs each line of a table as a command of `emu`, and prints what comes of it.
 //!
-//! The table is the file that the program's argument names. Each line is printed after `> `, then what
-//! the command prints, then its status. The stored output has for each
-//! command all that it should print, to the last byte, and how it should end. Where a text is not of the
-//! form that is read so far, that is `NotYet`, which the rules do not know. It is a test, and has no
-//! contract.
+//! The table is the file that the program's argument names. A line that begins with `#` says why the
+//! commands below it are there, and is passed over, as an empty line is. Each other line is printed after
+//! `> `, then what the command prints, then its status. The stored output has for each command all that
+//! it should print, to the last byte, and how it should end. Where a text is not of the form that is
+//! read so far, that is `NotYet`, which the rules do not know. It is a test, and has no contract.
 #![tactic(auto)]
 
 use emu_app::run;
@@ -74,7 +74,7 @@ fn run_table(rt: HostRuntime, alloc: Global) -> Result<(), Fault> {
     let mut out = HostSink::new(rt);
     let table = files.fetch(alloc, &name, LONGEST_TABLE)?;
     for line in table.split(|byte| *byte == b'\n') {
-        if !line.is_empty() {
+        if !line.is_empty() && !line.starts_with(b"#") {
             run_line(alloc, line, &mut files, &mut out)?;
         }
     }
