@@ -1,7 +1,11 @@
-//! The texts of results, read back.
+//! The texts of results, read back and printed.
 //!
-//! The plain results are read, of any size: the netlist of one chip of `buf` and `not` gates and of
-//! registers without D, the schedule of `input` actions alone, and the map of one chip without
+//! `read_schedule` and `read_map` give the schedule or the map that a text of any form says, or its first
+//! fault, exactly (`specs/Schedule.antt`, `specs/Map.antt`); `print_schedule` and `print_map` give the
+//! texts, to the byte. No clause says yet that what is printed reads back.
+//!
+//! Beside them the plain results are read, of any size: the netlist of one chip of `buf` and `not` gates
+//! and of registers without D, the schedule of `input` actions alone, and the map of one chip without
 //! memories whose subjects are nets of the design. Ok gives the one chip, schedule or map that the
 //! text says, by `specs/PlainNetlist.antt`, `specs/PlainSchedule.antt` and `specs/PlainMap.antt`;
 //! `NotYet` comes exactly where there is none.
