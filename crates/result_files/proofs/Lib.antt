@@ -17,3 +17,4 @@ pub mod ToldLists
 pub mod MapLemmas
 pub mod Floats
 pub mod OneResult
+pub mod ThreeTexts

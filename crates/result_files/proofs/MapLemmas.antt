@@ -14,9 +14,9 @@ use Rattle.emu_machine.specs.declared.map.StateMap.{StateMap}
 use Rattle.emu_machine.specs.declared.map.Subject.{Subject}
 use Rattle.emu_machine.specs.declared.map.Subject.TheVariants.{Net, Up, Down, Take, Next, TakeWrite, Old, TakeRead}
 use Rattle.emu_machine.specs.declared.netlist.Chip.{Chip}
-use Rattle.result_files.specs.Trees.{list, whole, HasMember}
+use Rattle.result_files.specs.Trees.{list, whole}
 use Rattle.result_files.specs.Lists.{SayEach, SaysNone, FirstBad, HasList}
-use Rattle.result_files.specs.Rows.{Row, IsRow, row_tree}
+use Rattle.result_files.specs.Rows.{Row, IsRow}
 use Rattle.result_files.specs.Map.{subject_row, IsSubjectTree, IsKeptTree, IsSpotTree, IsMemoryTree, IsEntryTree, EntryFits, SaysEntry, HasEntries}
 use Rattle.serde_json.specs.View.{view}
 use Rattle.serde_json.specs.declared.value.Value.{Value}

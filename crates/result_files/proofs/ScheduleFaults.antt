@@ -1,8 +1,7 @@
 -- What the readers of schedules answer where a part of what they read was answered.
-use Rattle.std.proofs.Common.{◌≡◌, ◌<◌, ℕ, List, [], ◌∷◌, length, get_or, take, Result, Ok, Err, refl, sym, subst}
+use Rattle.std.proofs.Common.{◌≡◌, ◌<◌, ℕ, List, length, get_or, take, Result, Ok, Err, sym, subst}
 use Rattle.std.specs.Prelude.{IsErr, map, codes}
 use Rattle.std.specs.Result.{IsErrAnd}
-use Rattle.std.proofs.lemmas.Option.{same_Some}
 use Rattle.serde_json.specs.Data.{Data, string}
 use Rattle.serde_json.specs.View.{view}
 use Rattle.json_members.specs.JsonText.{IsTextOf}
@@ -13,7 +12,7 @@ use Rattle.serde_json.specs.declared.value.Value.{Value}
 use Rattle.result_files.specs.Trees.{list, AreFew, HasMember}
 use Rattle.result_files.specs.Faults.{Answers}
 use Rattle.result_files.specs.Lists.{SayEach, SaysNone, FirstBad}
-use Rattle.result_files.specs.Schedule.{IsActionTree, IsSlotTree, IsFrameTree, IsScheduleTree, IsShortList, IsFrameOf, HasFrames, IsBadSlot, IsBadFrame, IsBadSchedule, IsOfVersionOne, SaysSchedule, ScheduleAnswers}
+use Rattle.result_files.specs.Schedule.{IsActionTree, IsSlotTree, IsFrameTree, IsScheduleTree, IsFrameOf, HasFrames, IsBadSlot, IsBadFrame, IsBadSchedule, IsOfVersionOne, ScheduleAnswers}
 use Rattle.result_files.specs.Schedule.IsBadSlot.{shape as slot_shape, at as slot_at}
 use Rattle.result_files.specs.Schedule.IsBadFrame.{shape as frame_shape, at as frame_at}
 use Rattle.result_files.specs.Schedule.IsBadSchedule.{shape as schedule_shape, at as schedule_at}

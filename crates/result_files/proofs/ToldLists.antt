@@ -1,16 +1,12 @@
 -- Lists of which one entry says nothing.
-use Rattle.std.proofs.Common.{◌≡◌, ◌<◌, ℕ, List, [], ◌∷◌, ◌++◌, length, get_or, take, slice_get, Some, Result, Ok, Err, refl, sym, ◌∙◌, subst}
-use Rattle.std.specs.List.{zip}
-use Rattle.std.proofs.lemmas.List.{take_more}
-use Rattle.std.proofs.lemmas.Option.{same_Some, slice_get_read, get_or_from_slice_get}
+use Rattle.std.proofs.Common.{◌≡◌, ℕ, List, Err, sym, ◌∙◌, subst}
 use Rattle.serde_json.specs.Data.{Data}
-use Rattle.result_files.specs.Trees.{list, AreFew}
-use Rattle.result_files.specs.Faults.{Answers}
+use Rattle.result_files.specs.Trees.{list}
 use Rattle.result_files.specs.Lists.{SayEach, SaysNone, FirstBad, IsListOf}
 use Rattle.result_files.specs.Readers.{ListAnswers}
 use Rattle.result_files.specs.declared.told.ListFault.{ListFault}
 use Rattle.result_files.specs.declared.told.ListFault.TheVariants as list_fault
-use Rattle.result_files.proofs.Entries.{says_at, say_more}
+use Rattle.result_files.proofs.Entries.{says_at}
 use Rattle.result_files.proofs.Inside.{same_list}
 use Rattle.result_files.proofs.ScheduleFaults.{first_bad}
 

@@ -12,3 +12,4 @@ pub mod PlainNetlist
 pub mod Taken
 pub mod Digits
 pub mod Drivers
+pub mod ThreeTexts

@@ -10,7 +10,7 @@ use Rattle.emu_machine.specs.declared.schedule.Frame.{Frame}
 use Rattle.emu_machine.specs.declared.schedule.Schedule.{Schedule}
 use Rattle.emu_machine.specs.declared.schedule.Slot.{Slot}
 use Rattle.result_files.specs.Trees.{list, whole, AreFew, HasMember}
-use Rattle.result_files.specs.Lists.{SayEach, SaysNone, FirstBad, IsListOf, HasList}
+use Rattle.result_files.specs.Lists.{SaysNone, FirstBad, IsListOf, HasList}
 use Rattle.result_files.specs.Rows.{Row, IsRow}
 use Rattle.result_files.specs.declared.result_fault.ResultFault.{ResultFault}
 use Rattle.result_files.specs.declared.result_fault.ResultFault.TheVariants.{ScheduleNotJson, ScheduleVersion, ScheduleForm, NoMemory}

@@ -1,8 +1,11 @@
 //! The texts of results, read back and printed.
 //!
-//! `read_schedule` and `read_map` give the schedule or the map that a text of any form says, or its first
-//! fault, exactly (`specs/Schedule.antt`, `specs/Map.antt`); `print_schedule` and `print_map` give the
-//! texts, to the byte. No clause says yet that what is printed reads back.
+//! `read_results` gives the results that a netlist, a schedule and a map stand for, or their first fault:
+//! those of the netlist come first, then those of the schedule, then those of the map
+//! (`specs/ThreeTexts.antt`). `results_are_told_apart` carries the law that three texts stand for at most
+//! one result. `read_schedule` and `read_map` are the parts for a schedule and for a map alone, of any
+//! form (`specs/Schedule.antt`, `specs/Map.antt`); `print_schedule` and `print_map` give the texts, to the
+//! byte. No clause says yet that what is printed reads back.
 //!
 //! Beside them the plain results are read, of any size: the netlist of one chip of `buf` and `not` gates
 //! and of registers without D, the schedule of `input` actions alone, and the map of one chip without
@@ -26,6 +29,7 @@ mod rest;
 mod result_fault;
 mod rows;
 mod schedule_reader;
+mod three_texts;
 mod told;
 mod tree_list;
 mod trees;
@@ -39,8 +43,4 @@ pub use printed_map::print_map;
 pub use printed_schedule::print_schedule;
 pub use result_fault::ResultFault;
 pub use schedule_reader::{read_schedule, schedules_are_told_apart};
-
-#[cfg(test)]
-mod plain_tests;
-#[cfg(test)]
-mod tests;
+pub use three_texts::{read_results, results_are_told_apart};

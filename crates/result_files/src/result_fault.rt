@@ -1,6 +1,8 @@
 //! Why texts stand for no results.
 use emu_io::NoMemory;
+use emu_machine::BuildFault;
 use id_arena::{ChipId, ChipNetId};
+use netlist_reader::NetlistFault;
 use verilog_lex::LexFault;
 
 /// Why three texts stand for no results: the first fault, in this order.
@@ -38,5 +40,47 @@ impl From<NoMemory> for ResultFault {
 
     fn from(_: NoMemory) -> ResultFault {
         ResultFault::NoMemory
+    }
+}
+
+impl From<LexFault> for ResultFault {
+    ghost use Rattle.std.specs.Prelude.{◌≡◌};
+    ghost use Rattle.result_files.specs.ThreeTexts.{of_lex};
+
+    ghost from_gives = { λ lex fault. fault ≡ of_lex lex };
+
+    fn from(fault: LexFault) -> ResultFault {
+        match fault {
+            LexFault::NoMemory => ResultFault::NoMemory,
+            fault => ResultFault::NetlistLex(fault),
+        }
+    }
+}
+
+impl From<NetlistFault> for ResultFault {
+    ghost use Rattle.std.specs.Prelude.{◌≡◌};
+    ghost use Rattle.result_files.specs.ThreeTexts.{of_form};
+
+    ghost from_gives = { λ form fault. fault ≡ of_form form };
+
+    fn from(fault: NetlistFault) -> ResultFault {
+        match fault {
+            NetlistFault::Form { token } => ResultFault::NetlistForm { token },
+            NetlistFault::NoMemory => ResultFault::NoMemory,
+        }
+    }
+}
+
+impl From<BuildFault> for ResultFault {
+    ghost use Rattle.std.specs.Prelude.{◌≡◌};
+    ghost use Rattle.result_files.specs.ThreeTexts.{of_build};
+
+    ghost from_gives = { λ build fault. fault ≡ of_build build };
+
+    fn from(fault: BuildFault) -> ResultFault {
+        match fault {
+            BuildFault::ShapeFault { chip, net } => ResultFault::NetlistShape { chip, net },
+            BuildFault::NoMemory => ResultFault::NoMemory,
+        }
     }
 }
