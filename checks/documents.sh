@@ -96,13 +96,14 @@ long_files() {
         awk '$2 != "total" && $1 > 800 {print $2 " has " $1 " lines"}'
 }
 
-# recorded commands without a line above that says why they are there, and their texts that no command names
+# recorded commands and calls without a line above that says why they are there, and their texts that none names
 untold_cases() {
-    cases=crates/emu_cases/data
-    awk '/^#|^$/ {told = /^# /; next} !told {print "crates/emu_cases/data/cases.txt: line " NR " has no reason above it"}' \
-        $cases/cases.txt
-    git ls-files "$cases/*/*" | sed "s|^$cases/||" | sort |
-        comm -23 - <(tr ' ' '\n' <$cases/cases.txt | sort -u) | sed "s|^|$cases: no command names |"
+    for cases in crates/emu_cases/data crates/layer_cases/data; do
+        awk -v cases="$cases" '/^#|^$/ {told = /^# /; next} !told {print cases "/cases.txt: line " NR " has no reason above it"}' \
+            $cases/cases.txt
+        git ls-files "$cases/*/*" | sed "s|^$cases/||" | sort |
+            comm -23 - <(tr ' ' '\n' <$cases/cases.txt | sort -u) | sed "s|^|$cases: no line names |"
+    done
 }
 
 say "$(missing_headings)"

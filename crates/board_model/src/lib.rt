@@ -17,6 +17,3 @@ pub use branches::Tree;
 pub use fault::BoardFault;
 pub use reader::{each_text_has_one_answer, read_board};
 pub use routes::tree;
-
-#[cfg(test)]
-mod tests;

@@ -22,8 +22,6 @@ mod members;
 mod pins;
 mod read;
 mod table;
-#[cfg(test)]
-mod tests;
 mod written;
 
 pub use cell::{Cell, CellKind, CellRead, CellWrite, CombOut, EdgePin, FeedPin, LevelPin};

@@ -19,6 +19,3 @@ pub use laws::{
     ranks_are_unique,
 };
 pub use ranked::{Ranked, rank};
-
-#[cfg(test)]
-mod tests;

@@ -24,6 +24,3 @@ pub use influences::influence;
 pub use openings::{OpeningFault, each_opening_has_one_answer};
 pub use port_names::PortNames;
 pub use read::{each_text_has_one_answer, read_groups};
-
-#[cfg(test)]
-mod tests;

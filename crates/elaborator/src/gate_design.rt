@@ -354,6 +354,3 @@ pub fn trees_tell_designs_apart()
 pub fn gate_designs_are_plain()
     ensures { GateDesignsArePlain }
 {}
-
-#[cfg(test)]
-mod tests;

@@ -5,13 +5,21 @@
 //! `> `, then what the command prints, then its status. The stored output has for each command all that
 //! it should print, to the last byte, and how it should end. Where a text is not of the form that is
 //! read so far, that is `NotYet`, which the rules do not know. It is a test, and has no contract.
+//!
+//! Before a command may stand what is not as usual, and a colon. `fetch K fails` and `put K fails` count
+//! from 0; `spaces N NAME` makes a text of so many spaces; `cut NAME` runs the command with each proper
+//! prefix of a text, prints the digits of the statuses in a line, and then runs it with the whole text.
+//! Such commands run over texts that are held in memory.
 #![tactic(auto)]
 
+mod fault;
+mod twist;
+
+use crate::fault::Fault;
+use crate::twist::{run_twisted, twist_of};
 use emu_app::run;
-use emu_io::{
-    FetchFault, Files, HostFiles, HostSink, List, NoMemory, Sink, StoreFault, Text, Word,
-};
-use std::alloc::{AllocError, Global};
+use emu_io::{Files, HostFiles, HostSink, List, NoMemory, Sink, Text, Word};
+use std::alloc::Global;
 use std::process::ExitCode;
 use std::rt::Env;
 
@@ -20,41 +28,6 @@ const LONGEST_NAME: usize = 4_096;
 
 /// More bytes than the table has.
 const LONGEST_TABLE: u64 = 1_048_576;
-
-/// Why the table was not run to its end; the numbers are exit statuses.
-#[derive(Clone, Copy, Debug, Drop)]
-enum Fault {
-    /// The table could not be read.
-    NotRead = 1,
-    /// The output could not be written.
-    NotWritten = 2,
-    /// No memory was left.
-    NoMemory = 3,
-}
-
-impl From<FetchFault> for Fault {
-    fn from(_: FetchFault) -> Fault {
-        Fault::NotRead
-    }
-}
-
-impl From<StoreFault> for Fault {
-    fn from(_: StoreFault) -> Fault {
-        Fault::NotWritten
-    }
-}
-
-impl From<NoMemory> for Fault {
-    fn from(_: NoMemory) -> Fault {
-        Fault::NoMemory
-    }
-}
-
-impl From<AllocError> for Fault {
-    fn from(_: AllocError) -> Fault {
-        Fault::NoMemory
-    }
-}
 
 fn main(rt: HostRuntime) -> ExitCode {
     match run_table(rt, rt.alloc()) {
@@ -88,14 +61,35 @@ fn run_line<F: Files, O: Sink>(
     files: &mut F,
     out: &mut O,
 ) -> Result<(), Fault> {
-    let words = words(alloc, line)?;
     out.put(b"> ")?;
     out.put(line)?;
     out.put(b"\n")?;
-    let status = run(alloc, words.as_slice(), files, out);
+    let (before, command) = parted(line);
+    let words = words(alloc, command)?;
+    let status = match before {
+        None => run(alloc, words.as_slice(), files, out),
+        Some(before) => {
+            let said = self::words(alloc, before)?;
+            let Some(twist) = twist_of(alloc, said.as_slice())? else {
+                return Err(Fault::NoForm);
+            };
+            run_twisted(alloc, &twist, &words, files, out)?
+        }
+    };
     let told = format!(in alloc; "status {}\n", status.code())?;
     out.put(told.as_bytes())?;
     Ok(())
+}
+
+/// What stands before the first colon, if there is one, and the command.
+fn parted(line: &[u8]) -> (Option<&[u8]>, &[u8]) {
+    match line.iter().position(|byte| *byte == b':') {
+        None => (None, line),
+        Some(at) => (
+            Some(&line[..at]),
+            line[at..].strip_prefix(b": ").unwrap_or(b""),
+        ),
+    }
 }
 
 /// The words of a line, which has a space between each two.

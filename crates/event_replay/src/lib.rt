@@ -24,6 +24,3 @@ pub use opening::read_opening;
 pub use replaying::replay_lines;
 pub use settling::settle_lines;
 pub use trace::trace_line;
-
-#[cfg(test)]
-mod tests;

@@ -211,6 +211,3 @@ fn width_at(design: &Design, place: u32, address: u32) -> Option<usize>
     }
     Some(memory.width as usize)
 }
-
-#[cfg(test)]
-mod tests;

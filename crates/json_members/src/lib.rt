@@ -17,6 +17,3 @@ pub use members::{
 pub use names::{name_member, name_of, names_member, optional_name_member};
 pub use shape::ShapeFault;
 pub use text::{JsonFault, read_json};
-
-#[cfg(test)]
-mod tests;

@@ -11,6 +11,3 @@ mod placing;
 
 pub use fault::SeedFault;
 pub use placing::{each_design_has_one_seed, seed};
-
-#[cfg(test)]
-mod tests;

@@ -21,6 +21,3 @@ mod turn;
 pub use laws::{openings_fit, runs_give_the_history, runs_grow};
 pub use opening::{OpenWord, Opening};
 pub use settled::Settled;
-
-#[cfg(test)]
-mod tests;

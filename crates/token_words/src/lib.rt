@@ -9,6 +9,3 @@ mod words;
 
 pub use word::Word;
 pub use words::{are_words, is_word_at, name_at};
-
-#[cfg(test)]
-mod tests;

@@ -17,8 +17,6 @@ pub mod keyword;
 mod lex;
 mod number;
 mod piece;
-#[cfg(test)]
-mod tests;
 mod token;
 mod word;
 

@@ -21,8 +21,6 @@ mod primitive;
 mod reader;
 mod source;
 mod terminal;
-#[cfg(test)]
-mod tests;
 
 pub use parser::{ParseFault, has_one_tree, parse, texts_are_read};
 pub use source::{
