@@ -10,7 +10,7 @@ use Rattle.emu_machine.specs.declared.netlist.EmuRegister.{EmuRegister}
 use Rattle.emu_machine.specs.Results.{Results}
 use Rattle.emu_machine.specs.Netlist.{no_chip, chip_at}
 use Rattle.emu_machine.specs.State.{net_value}
-use Rattle.cycle_sim.specs.Standing.{CanRun, RegisterStands}
+use Rattle.cycle_sim.specs.Standing.{IsRunnable, RegisterStands}
 use Rattle.cycle_sim.specs.declared.steps.Step.{Step}
 use Rattle.cycle_sim.specs.Steps.{HasSteps}
 use Rattle.cycle_sim.specs.Tables.{Tables, cell, state_of, HaveSizes, AllShown, AllStepped, FirstShown}
@@ -52,7 +52,7 @@ module _ (r : Results) (chip k : ℕ) (register : EmuRegister) (at : slice_get (
   pub low_in : (held : List (List Bool)) → HaveSizes r held → chip < length held
   low_in held sizes = let low : chip < length r.net = chip_low in omega (arith, sizes.count)
 
-  module _ (wires : List Wire) (nets : ℕ) (runs : CanRun r wires nets) where
+  module _ (wires : List Wire) (nets : ℕ) (runs : IsRunnable r wires nets) where
     pub register_stands : RegisterStands (chip_at r.net chip).nets register
     register_stands = (runs.chips chip (chip_at r.net chip) (chip_here r.net chip chip_low)).registers k register at
 

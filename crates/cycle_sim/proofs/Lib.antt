@@ -6,10 +6,13 @@ pub mod Chips
 pub mod Fitting
 pub mod Ending
 pub mod Taking
+pub mod Ports
+pub mod Built
+pub mod Showing
+pub mod Storing
 pub mod Sending
 pub mod SlotSteps
 pub mod UnderWay
 pub mod Loads
-pub mod Examples
 pub mod JudgedResults
 pub mod Sources

@@ -9,17 +9,17 @@ use Rattle.emu_machine.specs.declared.schedule.Action.TheVariants.{Input, Load, 
 use Rattle.emu_machine.specs.State.{State, action_carried, first_given}
 use Rattle.facts.proofs.Tests.{no}
 use Rattle.cycle_sim.specs.Tables.{state_of}
-use Rattle.cycle_sim.specs.Takes.{HasSentOne, HasSent, sends_nothing}
+use Rattle.cycle_sim.specs.Takes.{HasSentOne, HasSent, leaves_all}
 use Rattle.cycle_sim.proofs.Taking.{first_of_two, split_at}
 
--- actions that are no `send` put nothing on a wire
-pub nothing_sent : (r : Results) (wires : List Wire) (x : State) (actions : List Action) → list_all sends_nothing actions ≡ true → (w : ℕ)
+-- actions that leave all as it is put nothing on a wire
+pub nothing_sent : (r : Results) (wires : List Wire) (x : State) (actions : List Action) → list_all leaves_all actions ≡ true → (w : ℕ)
     → first_given (λ a. action_carried r.net wires x a w) actions ≡ None
 nothing_sent r wires x [] none w = refl
 nothing_sent r wires x (Input chip register net ∷ actions) none w = nothing_sent r wires x actions none w
 nothing_sent r wires x (Load chip register ∷ actions) none w = nothing_sent r wires x actions none w
 nothing_sent r wires x (Send wire net register ∷ actions) none w = no none
-nothing_sent r wires x (Write chip mem port ∷ actions) none w = nothing_sent r wires x actions none w
+nothing_sent r wires x (Write chip mem port ∷ actions) none w = no none
 nothing_sent r wires x (Read chip mem port ∷ actions) none w = nothing_sent r wires x actions none w
 
 module _ (r : Results) (wires : List Wire) (shown : List (List Bool)) where

@@ -1,65 +1,44 @@
 -- The state after a slot, from what registers took; and the state with the values of an event.
 use Rattle.std.proofs.Common.{◌≡◌, ◌<◌, ◌≤◌, ◌+◌, ℕ, Bool, false, List, [], ◌∷◌, drop, set, get_or, length, replicate, refl, sym, ap, ◌∙◌, inl, inr, if◌then◌else◌, arith}
 use Rattle.std.proofs.Math.Path.{fun_ext}
-use Rattle.std.specs.Prelude.{◌==◌, ◌⊎◌, Option, Some, None, unwrap_or, All}
+use Rattle.std.specs.Prelude.{◌==◌, ◌⊎◌, Option, Some, None, unwrap_or}
 use Rattle.std.specs.Option.{option_or}
 use Rattle.std.proofs.lemmas.Bool.{cases_eq, cases_lt}
 use Rattle.std.proofs.lemmas.List.{get_or-set_same, get_or-set_other, get_or-replicate, get_or_past, length-replicate, drop_more}
-use Rattle.std.proofs.lemmas.List.Elements.{All-head, All-tail}
 use Rattle.id_arena.specs.declared.wire.Wire.{Wire}
 use Rattle.design_core.specs.declared.values.PortBit.{PortBit}
 use Rattle.design_core.specs.Event.{given}
-use Rattle.emu_machine.specs.declared.schedule.Action.{Action}
-use Rattle.emu_machine.specs.declared.schedule.Action.TheVariants.{Input, Load, Send, Write, Read}
 use Rattle.emu_machine.specs.declared.schedule.Slot.{Slot}
 use Rattle.emu_machine.specs.Results.{Results}
 use Rattle.emu_machine.specs.State.{State, action_value, action_word, action_carried, first_given, actions_of, ending, slot_step, present}
 use Rattle.facts.proofs.Tests.{same_number}
-use Rattle.cycle_sim.specs.Standing.{CanTake}
-use Rattle.cycle_sim.specs.Tables.{Tables, cell, state_of, HasPut}
-use Rattle.cycle_sim.specs.Takes.{HasGiven, IsCarrying}
+use Rattle.cycle_sim.specs.Tables.{Tables, cell, word_in, state_of, HasPut}
+use Rattle.cycle_sim.specs.Takes.{HasGiven, AreStored, IsCarrying}
 use Rattle.cycle_sim.proofs.Counting.{is_other}
 use Rattle.cycle_sim.proofs.Taking.{started}
 
 -- ## Slots
 
-module _ (r : Results) (wires : List Wire) (nets : ℕ) where
-  no_word : (x : State) (action : Action) → CanTake r wires nets action → (c m a : ℕ) → action_word r.net x action c m a ≡ None
-  no_word x (Input chip register net) h c m a = refl
-  no_word x (Load chip register) h c m a = refl
-  no_word x (Send wire net register) h c m a = refl
-  no_word x (Write chip mem port) h c m a = absurd h
-  no_word x (Read chip mem port) h c m a = refl
-
-  no_words : (x : State) (actions : List Action) → All (CanTake r wires nets) actions → (c m a : ℕ)
-      → first_given (λ action. action_word r.net x action c m a) actions ≡ None
-  no_words x [] h c m a = refl
-  no_words x (action ∷ actions) h c m a =
-      let here : action_word r.net x action c m a ≡ None = no_word x action (All-head (CanTake r wires nets) action actions h) c m a in
-      let rest : first_given (λ action. action_word r.net x action c m a) actions ≡ None = no_words x actions (All-tail (CanTake r wires nets) action actions h) c m a in
-      ap (λ o. option_or o (first_given (λ action. action_word r.net x action c m a) actions)) here ∙ rest
-
-  -- what registers took and what wires were given is the slot step
-  pub stepped : (slots : List Slot) (t : ℕ) (outside : List Bool) (before after : List (List Bool)) (carried sent : List Bool)
-      → All (CanTake r wires nets) (actions_of slots t)
-      → HasGiven (λ c n. first_given (λ a. action_value r.net wires (started before outside carried) a c n) (ending wires slots t)) before after
-      → IsCarrying (λ w. first_given (λ a. action_carried r.net wires (started before outside carried) a w) (actions_of slots t)) carried sent
-      → started after outside sent ≡ slot_step r.net wires slots t (started before outside carried)
-  stepped slots t outside before after carried sent stand taken given =
-      let x : State = started before outside carried in
-      let y : State = slot_step r.net wires slots t x in
-      let held : cell after ≡ y.held = fun_ext (λ c. fun_ext (λ n. taken c n)) in
-      let word : (λ (c m a : ℕ). x.word c m a) ≡ y.word =
-      fun_ext (λ c. fun_ext (λ m. fun_ext (λ a. sym (ap (λ o. unwrap_or o 0) (no_words x (actions_of slots t) stand c m a))))) in
-      let carries : (λ (w : ℕ). get_or sent w false) ≡ y.carried = fun_ext given in
-      ap (λ (h : ℕ → ℕ → Bool). let z : State = record { held = h; word = x.word; outside = x.outside; carried = λ w. get_or sent w false } in z) held
-      ∙ ap (λ (w : ℕ → ℕ → ℕ → ℕ). let z : State = record { held = y.held; word = w; outside = x.outside; carried = λ w. get_or sent w false } in z) word
-      ∙ ap (λ (on : ℕ → Bool). let z : State = record { held = y.held; word = y.word; outside = x.outside; carried = on } in z) carries
+-- what registers took, what words were given and what wires were given is the slot step
+pub stepped : (r : Results) (wires : List Wire) (slots : List Slot) (t : ℕ) (outside : List Bool) (before after : List (List Bool)) (words stored : List (List (List ℕ))) (carried sent : List Bool)
+    → HasGiven (λ c n. first_given (λ a. action_value r.net wires (started before words outside carried) a c n) (ending wires slots t)) before after
+    → AreStored (λ c m a. first_given (λ action. action_word r.net (started before words outside carried) action c m a) (actions_of slots t)) words stored
+    → IsCarrying (λ w. first_given (λ a. action_carried r.net wires (started before words outside carried) a w) (actions_of slots t)) carried sent
+    → started after stored outside sent ≡ slot_step r.net wires slots t (started before words outside carried)
+stepped r wires slots t outside before after words stored carried sent taken put given =
+    let x : State = started before words outside carried in
+    let y : State = slot_step r.net wires slots t x in
+    let held : cell after ≡ y.held = fun_ext (λ c. fun_ext (λ n. taken c n)) in
+    let word : word_in stored ≡ y.word = fun_ext (λ c. fun_ext (λ m. fun_ext (λ a. put c m a))) in
+    let carries : (λ (w : ℕ). get_or sent w false) ≡ y.carried = fun_ext given in
+    ap (λ (h : ℕ → ℕ → Bool). let z : State = record { held = h; word = word_in stored; outside = x.outside; carried = λ w. get_or sent w false } in z) held
+    ∙ ap (λ (w : ℕ → ℕ → ℕ → ℕ). let z : State = record { held = y.held; word = w; outside = x.outside; carried = λ w. get_or sent w false } in z) word
+    ∙ ap (λ (on : ℕ → Bool). let z : State = record { held = y.held; word = y.word; outside = x.outside; carried = on } in z) carries
 
 -- wires that carry 0 and wires without a value carry the same
-pub carries_nothing : (t : Tables) (count : ℕ) → t.carried ≡ [] → started t.held t.outside (replicate count false) ≡ state_of t
+carries_nothing : (t : Tables) (count : ℕ) → t.carried ≡ [] → started t.held t.words t.outside (replicate count false) ≡ state_of t
 carries_nothing t count none =
-    ap (λ (on : ℕ → Bool). let z : State = record { held = cell t.held; word = λ c m a. 0; outside = λ n. get_or t.outside n false; carried = on } in z)
+    ap (λ (on : ℕ → Bool). let z : State = record { held = cell t.held; word = word_in t.words; outside = λ n. get_or t.outside n false; carried = on } in z)
     (fun_ext (λ w. zero_there w (cases_lt w count) ∙ sym (ap (λ some. get_or some w false) none)))
   where
     zero_there : (w : ℕ) → (w < count) ⊎ (count ≤ w) → get_or (replicate count false) w false ≡ false
@@ -68,12 +47,23 @@ carries_nothing t count none =
         let size : length (replicate count false) ≡ count = length-replicate count false in
         get_or_past (replicate count false) w false (omega (arith, size, high))
 
+-- the tables of a machine that is opened stand for what was loaded
+pub opened : (t : Tables) (held : List (List Bool)) (words : List (List (List ℕ))) (outside carried : List Bool) (count : ℕ)
+    → held ≡ t.held → words ≡ t.words → outside ≡ t.outside → carried ≡ replicate count false → t.carried ≡ []
+    → started held words outside carried ≡ state_of t
+opened t held words outside carried count held_is words_is outside_is zeros none =
+    ap (λ some. started some words outside carried) held_is
+    ∙ ap (λ some. started t.held some outside carried) words_is
+    ∙ ap (λ some. started t.held t.words some carried) outside_is
+    ∙ ap (λ some. started t.held t.words t.outside some) zeros
+    ∙ carries_nothing t count none
+
 -- ## Values that stand outside
 
-pub presented : (values : List PortBit) (held : List (List Bool)) (before after carried : List Bool) → HasPut values before after
-    → started held after carried ≡ present values (started held before carried)
-presented values held before after carried put =
-    let x : State = started held before carried in
+pub presented : (values : List PortBit) (held : List (List Bool)) (words : List (List (List ℕ))) (before after carried : List Bool) → HasPut values before after
+    → started held words after carried ≡ present values (started held words before carried)
+presented values held words before after carried put =
+    let x : State = started held words before carried in
     let y : State = present values x in
     let same : (λ (n : ℕ). get_or after n false) ≡ y.outside = fun_ext put in
     ap (λ (o : ℕ → Bool). let z : State = record { held = x.held; word = x.word; outside = o; carried = x.carried } in z) same

@@ -1,27 +1,31 @@
 -- What actions give to registers.
 use Rattle.std.proofs.Common.{◌≡◌, ◌<◌, ◌+◌, ℕ, Bool, true, false, List, [], ◌∷◌, drop, set, get_or, length, refl, sym, ap, subst, ◌∙◌, inl, inr, if◌then◌else◌}
-use Rattle.std.specs.Prelude.{◌==◌, ◌⊎◌, Option, Some, None, slice_get, unwrap_or, option_and_then, IfSome}
+use Rattle.std.specs.Prelude.{◌==◌, ◌⊎◌, Option, Some, None, All, slice_get, unwrap_or, option_map, option_and_then, position, IfSome}
 use Rattle.std.specs.Option.{option_or}
 use Rattle.std.proofs.lemmas.Bool.{cases_eq}
+use Rattle.std.proofs.lemmas.List.Elements.{All-head, All-tail}
 use Rattle.std.proofs.lemmas.List.{length-set, get_or-set_same, get_or-set_other, drop_more}
 use Rattle.std.proofs.lemmas.Option.{same_Some, slice_get_within, get_or_from_slice_get}
 use Rattle.id_arena.specs.declared.keys.ChipNetId.{ChipNetId}
 use Rattle.id_arena.specs.declared.keys.ChipId.{ChipId}
+use Rattle.id_arena.specs.declared.keys.MemId.{MemId}
 use Rattle.id_arena.specs.declared.keys.NetId.{NetId}
 use Rattle.id_arena.specs.declared.keys.RegId.{RegId}
 use Rattle.id_arena.specs.declared.keys.WireId.{WireId}
 use Rattle.id_arena.specs.declared.wire.Wire.{Wire}
+use Rattle.design_core.specs.Operation.{bit_of, number}
+use Rattle.emu_machine.specs.declared.netlist.EmuRead.{EmuRead}
 use Rattle.emu_machine.specs.declared.netlist.EmuRegister.{EmuRegister}
 use Rattle.emu_machine.specs.declared.schedule.Action.{Action}
-use Rattle.emu_machine.specs.declared.schedule.Action.TheVariants.{Input, Load, Send}
+use Rattle.emu_machine.specs.declared.schedule.Action.TheVariants.{Input, Load, Send, Read}
 use Rattle.emu_machine.specs.Results.{Results}
 use Rattle.emu_machine.specs.Netlist.{chip_at, is_chip_net}
-use Rattle.emu_machine.specs.State.{State, net_value, on_register, loaded_value, arriving, action_value, first_given}
+use Rattle.emu_machine.specs.State.{State, net_value, net_values, net_number, read_port, read_bit, on_register, loaded_value, arriving, action_value, first_given}
 use Rattle.facts.proofs.Tests.{same_number}
-use Rattle.cycle_sim.specs.Standing.{CanRun, CanTake, IsThere, RegisterStands}
-use Rattle.cycle_sim.specs.Values.{value_in}
-use Rattle.cycle_sim.specs.Tables.{cell, state_of, HaveSizes, AllShown}
-use Rattle.cycle_sim.specs.Takes.{HasGiven, HasTakenOne, HasTaken}
+use Rattle.cycle_sim.specs.Standing.{IsRunnable, CanTake, IsThere, RegisterStands}
+use Rattle.cycle_sim.specs.Values.{value_in, values_in}
+use Rattle.cycle_sim.specs.Tables.{Tables, tables, cell, word_in, state_of, HaveSizes, AllShown}
+use Rattle.cycle_sim.specs.Takes.{HasGiven, HasTakenOne, HasTaken, ShowOnChip}
 use Rattle.cycle_sim.proofs.Counting.{is_other}
 use Rattle.cycle_sim.proofs.Chips.{net_is, chip_low, net_chip_low, low_in, register_stands, q_in}
 
@@ -87,10 +91,10 @@ module _ (held : List (List Bool)) (chip q : ℕ) (value : Bool) (low_c : chip <
 -- ## One action
 
 -- the state in which registers hold these values
-abbrev pub started : List (List Bool) → List Bool → List Bool → State
-started start outside carried = state_of (record { held = start; outside = outside; carried = carried })
+abbrev pub started : List (List Bool) → List (List (List ℕ)) → List Bool → List Bool → State
+started start words outside carried = state_of (tables start words outside carried)
 
-module _ (r : Results) (wires : List Wire) (shown : List (List Bool)) (outside carried : List Bool) (chip number : ℕ) (register : EmuRegister) (at : slice_get (chip_at r.net chip).registers number ≡ Some register) where
+module _ (r : Results) (wires : List Wire) (shown : List (List Bool)) (words : List (List (List ℕ))) (outside carried : List Bool) (chip number : ℕ) (register : EmuRegister) (at : slice_get (chip_at r.net chip).registers number ≡ Some register) where
   abbrev reading : (EmuRegister → Option Bool) → ℕ → Option EmuRegister → Option Bool
   reading gives n o = option_and_then (λ one. if is_chip_net n one.q then gives one else None) o
 
@@ -131,14 +135,14 @@ module _ (r : Results) (wires : List Wire) (shown : List (List Bool)) (outside c
   -- what a load reads is what the nets show
   reads : chip < length r.net → RegisterStands (chip_at r.net chip).nets register → (start : List (List Bool)) → AllShown r start shown
       → loaded_value (value_in (get_or shown chip [])) register.d register.enable
-      ≡ loaded_value (λ m. net_value r.net (started start outside carried) chip m.place) register.d register.enable
+      ≡ loaded_value (λ m. net_value r.net (started start words outside carried) chip m.place) register.d register.enable
   reads low stands start all =
-      loaded_same (value_in (get_or shown chip [])) (λ m. net_value r.net (started start outside carried) chip m.place)
+      loaded_same (value_in (get_or shown chip [])) (λ m. net_value r.net (started start words outside carried) chip m.place)
       (chip_at r.net chip).nets register.d register.enable stands.d stands.enable
-      (λ m there. net_is r (record { held = start; outside = outside; carried = carried }) shown all chip m.place low there)
+      (λ m there. net_is r (tables start words outside carried) shown all chip m.place low there)
 
 -- the same, of an action by its form
-module _ (r : Results) (wires : List Wire) (nets : ℕ) (outside carried : List Bool) (runs : CanRun r wires nets) (shown held : List (List Bool)) (sizes : HaveSizes r held) where
+module _ (r : Results) (wires : List Wire) (nets : ℕ) (words : List (List (List ℕ))) (outside carried : List Bool) (runs : IsRunnable r wires nets) (shown held : List (List Bool)) (sizes : HaveSizes r held) where
   module _ (chip : ChipId) (number : RegId) (register : EmuRegister) (at : slice_get (chip_at r.net chip.place).registers number.place ≡ Some register) where
     low_chip : chip.place < length held
     low_chip = low_in r chip.place number.place register at held sizes
@@ -149,43 +153,43 @@ module _ (r : Results) (wires : List Wire) (nets : ℕ) (outside carried : List 
     pub input_done : (net : NetId) (action : Action) → action ≡ Input chip number net
         → (value : Bool) → value ≡ get_or outside net.place false
         → (after : List (List Bool)) → after ≡ put_at held chip.place register.q.place value
-        → HasTakenOne r wires shown outside carried action held after
+        → HasTakenOne r wires shown words outside carried action held after
     input_done net action is value reads_it after put =
-        subst (λ a. HasTakenOne r wires shown outside carried a held after) (sym is)
-        (subst (λ h. HasTakenOne r wires shown outside carried (Input chip number net) held h) (sym put)
-        (λ start all. given_put r wires shown outside carried chip.place number.place register at (λ one. Some (get_or outside net.place false)) held low_chip low_net value (ap Some reads_it)))
+        subst (λ a. HasTakenOne r wires shown words outside carried a held after) (sym is)
+        (subst (λ h. HasTakenOne r wires shown words outside carried (Input chip number net) held h) (sym put)
+        (λ start all. given_put r wires shown words outside carried chip.place number.place register at (λ one. Some (get_or outside net.place false)) held low_chip low_net value (ap Some reads_it)))
 
     module _ (table : List Bool) (table_is : table ≡ get_or shown chip.place []) (action : Action) (is : action ≡ Load chip number) where
       loads : (start : List (List Bool)) → AllShown r start shown → (o : Option Bool) → o ≡ loaded_value (value_in table) register.d register.enable
-          → o ≡ loaded_value (λ m. net_value r.net (started start outside carried) chip.place m.place) register.d register.enable
+          → o ≡ loaded_value (λ m. net_value r.net (started start words outside carried) chip.place m.place) register.d register.enable
       loads start all o gives =
           gives
           ∙ ap (λ t. loaded_value (value_in t) register.d register.enable) table_is
-          ∙ reads r wires shown outside carried chip.place number.place register at (chip_low r chip.place number.place register at)
+          ∙ reads r wires shown words outside carried chip.place number.place register at (chip_low r chip.place number.place register at)
           (register_stands r chip.place number.place register at wires nets runs) start all
 
-      pub load_left : None ≡ loaded_value (value_in table) register.d register.enable → HasTakenOne r wires shown outside carried action held held
+      pub load_left : None ≡ loaded_value (value_in table) register.d register.enable → HasTakenOne r wires shown words outside carried action held held
       load_left gives =
-          subst (λ a. HasTakenOne r wires shown outside carried a held held) (sym is)
-          (λ start all. none_put r wires shown outside carried chip.place number.place register at
-          (λ one. loaded_value (λ m. net_value r.net (started start outside carried) chip.place m.place) one.d one.enable) held (loads start all None gives))
+          subst (λ a. HasTakenOne r wires shown words outside carried a held held) (sym is)
+          (λ start all. none_put r wires shown words outside carried chip.place number.place register at
+          (λ one. loaded_value (λ m. net_value r.net (started start words outside carried) chip.place m.place) one.d one.enable) held (loads start all None gives))
 
       pub load_done : (value : Bool) → Some value ≡ loaded_value (value_in table) register.d register.enable
-          → (after : List (List Bool)) → after ≡ put_at held chip.place register.q.place value → HasTakenOne r wires shown outside carried action held after
+          → (after : List (List Bool)) → after ≡ put_at held chip.place register.q.place value → HasTakenOne r wires shown words outside carried action held after
       load_done value gives after put =
-          subst (λ a. HasTakenOne r wires shown outside carried a held after) (sym is)
-          (subst (λ h. HasTakenOne r wires shown outside carried (Load chip number) held h) (sym put)
-          (λ start all. given_put r wires shown outside carried chip.place number.place register at
-          (λ one. loaded_value (λ m. net_value r.net (started start outside carried) chip.place m.place) one.d one.enable) held low_chip low_net value (loads start all (Some value) gives)))
+          subst (λ a. HasTakenOne r wires shown words outside carried a held after) (sym is)
+          (subst (λ h. HasTakenOne r wires shown words outside carried (Load chip number) held h) (sym put)
+          (λ start all. given_put r wires shown words outside carried chip.place number.place register at
+          (λ one. loaded_value (λ m. net_value r.net (started start words outside carried) chip.place m.place) one.d one.enable) held low_chip low_net value (loads start all (Some value) gives)))
 
   module _ (wire : WireId) (net : ChipNetId) (number : RegId) (ends : Wire) (here : slice_get wires wire.place ≡ Some ends) (register : EmuRegister) (at : slice_get (chip_at r.net ends.to.place).registers number.place ≡ Some register) where
     -- what arrives is what the net shows, or what the wire has carried
     arrives : net.place < (chip_at r.net ends.from.place).nets → (start : List (List Bool)) → AllShown r start shown
         → (if ends.latency == 1 then value_in (get_or shown ends.from.place []) net else get_or carried wire.place false)
-        ≡ arriving r.net (started start outside carried) ends wire.place net
+        ≡ arriving r.net (started start words outside carried) ends wire.place net
     arrives low start all =
         ap (λ b. if ends.latency == 1 then b else get_or carried wire.place false)
-        (net_is r (record { held = start; outside = outside; carried = carried }) shown all ends.from.place net.place (net_chip_low r.net ends.from.place net.place low) low)
+        (net_is r (tables start words outside carried) shown all ends.from.place net.place (net_chip_low r.net ends.from.place net.place low) low)
 
     -- a net that the action names is there
     net_there : (action : Action) → action ≡ Send wire net number → CanTake r wires nets action → net.place < (chip_at r.net ends.from.place).nets
@@ -196,22 +200,91 @@ module _ (r : Results) (wires : List Wire) (nets : ℕ) (outside carried : List 
     pub send_done : (action : Action) → action ≡ Send wire net number → CanTake r wires nets action
         → (value : Bool) → value ≡ (if ends.latency == 1 then value_in (get_or shown ends.from.place []) net else get_or carried wire.place false)
         → (after : List (List Bool)) → after ≡ put_at held ends.to.place register.q.place value
-        → HasTakenOne r wires shown outside carried action held after
+        → HasTakenOne r wires shown words outside carried action held after
     send_done action is can value gives after put =
-        subst (λ a. HasTakenOne r wires shown outside carried a held after) (sym is)
-        (subst (λ h. HasTakenOne r wires shown outside carried (Send wire net number) held h) (sym put) go)
+        subst (λ a. HasTakenOne r wires shown words outside carried a held after) (sym is)
+        (subst (λ h. HasTakenOne r wires shown words outside carried (Send wire net number) held h) (sym put) go)
       where
         low : net.place < (chip_at r.net ends.from.place).nets
         low = net_there action is can
 
-        go : HasTakenOne r wires shown outside carried (Send wire net number) held (put_at held ends.to.place register.q.place value)
+        go : HasTakenOne r wires shown words outside carried (Send wire net number) held (put_at held ends.to.place register.q.place value)
         go start all c n =
-            let gives_it : EmuRegister → Option Bool = λ one. Some (arriving r.net (started start outside carried) ends wire.place net) in
-            given_put r wires shown outside carried ends.to.place number.place register at gives_it held
+            let gives_it : EmuRegister → Option Bool = λ one. Some (arriving r.net (started start words outside carried) ends wire.place net) in
+            given_put r wires shown words outside carried ends.to.place number.place register at gives_it held
             (low_in r ends.to.place number.place register at held sizes)
             (q_in r ends.to.place number.place register at wires nets runs held sizes)
             value (ap Some (gives ∙ arrives low start all)) c n
-            ∙ ap (λ o. unwrap_or (option_and_then (λ (e : Wire). on_register r.net e.to.place number.place (λ one. Some (arriving r.net (started start outside carried) e wire.place net)) c n) o) (cell held c n)) (sym here)
+            ∙ ap (λ o. unwrap_or (option_and_then (λ (e : Wire). on_register r.net e.to.place number.place (λ one. Some (arriving r.net (started start words outside carried) e wire.place net)) c n) o) (cell held c n)) (sym here)
+
+-- ## A read port
+
+-- what a row of a table is given is given to the table
+row_put : (given : ℕ → ℕ → Option Bool) (held : List (List Bool)) (chip : ℕ) (row : List Bool) → chip < length held
+    → ((n : ℕ) → get_or row n false ≡ unwrap_or (given chip n) (cell held chip n))
+    → HasGiven (λ c n. if chip == c then given c n else None) held (set held chip row)
+row_put given held chip row low gives c n = go (cases_eq c chip)
+  where
+    go : (c ≡ chip) ⊎ (c ≡ chip → ⊥) → cell (set held chip row) c n ≡ unwrap_or (if chip == c then given c n else None) (cell held c n)
+    go (inl same) =
+        ap (λ (k : ℕ). cell (set held chip row) k n) same
+        ∙ ap (λ r. get_or r n false) (get_or-set_same held chip row [] low)
+        ∙ gives n
+        ∙ ap (λ (k : ℕ). unwrap_or (given k n) (cell held k n)) (sym same)
+        ∙ sym (ap (λ b. unwrap_or (if b then given c n else None) (cell held c n)) (same_number chip c (sym same)))
+    go (inr other) =
+        ap (λ r. get_or r n false) (get_or-set_other held chip c row [] other)
+        ∙ sym (ap (λ b. unwrap_or (if b then given c n else None) (cell held c n)) (is_other chip c (λ e. other (sym e))))
+
+pub row_sizes : (r : Results) (held : List (List Bool)) (chip : ℕ) (row : List Bool) → chip < length held → HaveSizes r held → length row ≡ length (get_or held chip [])
+    → HaveSizes r (set held chip row)
+row_sizes r held chip row low h size =
+    record {
+      count = length-set held chip row ∙ h.count;
+      sizes = λ c one at. go c (cases_eq c chip) ∙ h.sizes c one at;
+    }
+  where
+    go : (c : ℕ) → (c ≡ chip) ⊎ (c ≡ chip → ⊥) → length (get_or (set held chip row) c []) ≡ length (get_or held c [])
+    go c (inl same) =
+        ap (λ (k : ℕ). length (get_or (set held chip row) k [])) same
+        ∙ ap length (get_or-set_same held chip row [] low)
+        ∙ size
+        ∙ ap (λ (k : ℕ). length (get_or held k [])) (sym same)
+    go c (inr other) = ap length (get_or-set_other held chip c row [] other)
+
+-- the values that nets show are those that come to them
+pub same_values : (r : Results) (t : Tables) (shown : List (List Bool)) → AllShown r t.held shown → (chip : ℕ) → chip < length r.net → (named : List ChipNetId) → All (IsThere (chip_at r.net chip).nets) named
+    → values_in (get_or shown chip []) named ≡ net_values r.net (state_of t) chip named
+same_values r t shown all chip low [] there = refl
+same_values r t shown all chip low (n ∷ named) there =
+    ap (λ b. b ∷ values_in (get_or shown chip []) named) (net_is r t shown all chip n.place low (All-head (IsThere (chip_at r.net chip).nets) n named there))
+    ∙ ap (λ bits. net_value r.net (state_of t) chip n.place ∷ bits) (same_values r t shown all chip low named (All-tail (IsThere (chip_at r.net chip).nets) n named there))
+
+module _ (r : Results) (wires : List Wire) (words : List (List (List ℕ))) (outside carried : List Bool) (shown held : List (List Bool)) (chip : ChipId) (mem : MemId) (number_of : ℕ) (port : EmuRead) (at : read_port r.net chip.place mem.place number_of ≡ Some port) where
+  pub read_done : (there : All (IsThere (chip_at r.net chip.place).nets) port.address) (low : chip.place < length r.net) (low_in : chip.place < length held)
+      → (table : List Bool) → table ≡ get_or shown chip.place []
+      → (address : ℕ) → address ≡ number (values_in table port.address)
+      → (word : ℕ) → word ≡ word_in words chip.place mem.place address
+      → (action : Action) → action ≡ Read chip mem number_of
+      → (after : List (List Bool)) → ShowOnChip port.bits word chip.place held after
+      → HasTakenOne r wires shown words outside carried action held after
+  read_done there low low_in table table_is address address_is word word_is action is after show =
+      subst (λ a. HasTakenOne r wires shown words outside carried a held after) (sym is)
+      (subst (λ h. HasTakenOne r wires shown words outside carried (Read chip mem number_of) held h) (sym show.put) go)
+    where
+      go : HasTakenOne r wires shown words outside carried (Read chip mem number_of) held (set held chip.place show.row)
+      go start all =
+          let x : State = started start words outside carried in
+          let given : ℕ → ℕ → Option Bool = λ c n. option_and_then (λ one. read_bit r.net x c mem.place one n) (read_port r.net c mem.place number_of) in
+          let number_is : address ≡ net_number r.net x chip.place port.address =
+          address_is ∙ ap (λ t. number (values_in t port.address)) table_is ∙ ap number (same_values r (tables start words outside carried) shown all chip.place low port.address there) in
+          let is_word : word ≡ x.word chip.place mem.place (net_number r.net x chip.place port.address) =
+          word_is ∙ ap (λ (a : ℕ). get_or (get_or (get_or words chip.place []) mem.place []) a 0) number_is in
+          row_put given held chip.place show.row low_in
+          (λ n.
+          show.shown n
+          ∙ ap (λ (w : ℕ). unwrap_or (option_map (bit_of w) (position (is_chip_net n) port.bits)) (cell held chip.place n)) is_word
+          ∙ sym (ap (λ o. unwrap_or (option_and_then (λ one. read_bit r.net x chip.place mem.place one n) o) (cell held chip.place n)) at))
 
 -- ## Several actions
 
@@ -226,26 +299,26 @@ split_at actions k left next action at =
     ∙ ap (λ a. a ∷ drop (k + 1) actions) (get_or_from_slice_get actions k action action at)
     ∙ ap (λ (i : ℕ). action ∷ drop i actions) (sym next)
 
-module _ (r : Results) (wires : List Wire) (shown : List (List Bool)) (outside carried : List Bool) where
-  pub none_taken : (held : List (List Bool)) → HasTaken r wires shown outside carried [] held held
+module _ (r : Results) (wires : List Wire) (shown : List (List Bool)) (words : List (List (List ℕ))) (outside carried : List Bool) where
+  pub none_taken : (held : List (List Bool)) → HasTaken r wires shown words outside carried [] held held
   none_taken held start all c n = refl
 
   pub one_taken : (actions : List Action) (k : ℕ) (left : ℕ) → left ≡ k + 1
       → (action : Action) → slice_get actions k ≡ Some action
-      → (before held after : List (List Bool)) → HasTaken r wires shown outside carried (drop left actions) before held → HasTakenOne r wires shown outside carried action held after
-      → HasTaken r wires shown outside carried (drop k actions) before after
+      → (before held after : List (List Bool)) → HasTaken r wires shown words outside carried (drop left actions) before held → HasTakenOne r wires shown words outside carried action held after
+      → HasTaken r wires shown words outside carried (drop k actions) before after
   one_taken actions k left next action at before held after rest one =
-      subst (λ (some : List Action). HasTaken r wires shown outside carried some before after) (sym (split_at actions k left next action at)) step
+      subst (λ (some : List Action). HasTaken r wires shown words outside carried some before after) (sym (split_at actions k left next action at)) step
     where
-      step : HasTaken r wires shown outside carried (action ∷ drop left actions) before after
+      step : HasTaken r wires shown words outside carried (action ∷ drop left actions) before after
       step start all c n =
           one start all c n
-          ∙ ap (unwrap_or (action_value r.net wires (started start outside carried) action c n)) (rest start all c n)
-          ∙ first_of_two (action_value r.net wires (started start outside carried) action c n)
-          (first_given (λ a. action_value r.net wires (started start outside carried) a c n) (drop left actions))
+          ∙ ap (unwrap_or (action_value r.net wires (started start words outside carried) action c n)) (rest start all c n)
+          ∙ first_of_two (action_value r.net wires (started start words outside carried) action c n)
+          (first_given (λ a. action_value r.net wires (started start words outside carried) a c n) (drop left actions))
           (cell before c n)
 
   pub all_taken : (actions : List Action) (left : ℕ) → left ≡ 0 → (before after : List (List Bool))
-      → HasTaken r wires shown outside carried (drop left actions) before after → HasTaken r wires shown outside carried actions before after
+      → HasTaken r wires shown words outside carried (drop left actions) before after → HasTaken r wires shown words outside carried actions before after
   all_taken actions left none before after h =
-      subst (λ (k : ℕ). HasTaken r wires shown outside carried (drop k actions) before after) none h
+      subst (λ (k : ℕ). HasTaken r wires shown words outside carried (drop k actions) before after) none h

@@ -5,6 +5,4 @@ pub mod Orders
 pub mod Steps
 pub mod Takes
 pub mod Loading
-pub mod Example
-pub mod Relay
 pub mod Judged

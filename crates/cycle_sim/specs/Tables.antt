@@ -1,40 +1,46 @@
 -- The machine's state as tables of values.
 -- The rules are told in docs/RULES.md, "Actions, slots and frames" and "Loaded".
-use Rattle.std.specs.Prelude.{◌≡◌, ◌<◌, ℕ, Bool, true, false, Some, List, [], ◌++◌, map, length, get_or, slice_get, unwrap_or}
+use Rattle.std.specs.Prelude.{◌≡◌, ◌<◌, ◌^◌, ℕ, Bool, true, false, Some, List, [], ◌++◌, map, length, get_or, slice_get, unwrap_or}
 use Rattle.std.specs.List.{filter}
 use Rattle.id_arena.specs.declared.wire.Wire.{Wire}
 use Rattle.design_core.specs.declared.values.PortBit.{PortBit}
 use Rattle.design_core.specs.Event.{given}
 use Rattle.emu_machine.specs.declared.netlist.Chip.{Chip}
+use Rattle.emu_machine.specs.declared.netlist.EmuMemory.{EmuMemory}
 use Rattle.emu_machine.specs.declared.schedule.Action.{Action}
 use Rattle.emu_machine.specs.Results.{Results}
 use Rattle.emu_machine.specs.declared.schedule.Slot.{Slot}
 use Rattle.emu_machine.specs.State.{State, frame_slots, Timed, timed, is_last, ending}
-use Rattle.cycle_sim.specs.Standing.{CanRun}
+use Rattle.cycle_sim.specs.Standing.{IsRunnable}
 use Rattle.cycle_sim.specs.Values.{AreShown}
 use Rattle.cycle_sim.specs.declared.steps.Step.{Step}
 use Rattle.cycle_sim.specs.Steps.{HasSteps}
 
--- by chip and net what a register holds there, by net of the design the outside value of an input, and by
--- wire the value that it carries
+-- by chip and net what a register or read port holds there, by chip, memory and address each word, by net of the
+-- design the outside value of an input, and by wire the value that it carries
 pub record Tables : Type 0 where
   pub held : List (List Bool)
+  pub words : List (List (List ℕ))
   pub outside : List Bool
   pub carried : List Bool
 
-abbrev pub tables : List (List Bool) → List Bool → List Bool → Tables
-tables held outside carried = record { held = held; outside = outside; carried = carried }
+abbrev pub tables : List (List Bool) → List (List (List ℕ)) → List Bool → List Bool → Tables
+tables held words outside carried = record { held = held; words = words; outside = outside; carried = carried }
 
 -- a value of a table of tables; what is not there is 0
 abbrev pub cell : List (List Bool) → ℕ → ℕ → Bool
 cell held c n = get_or (get_or held c []) n false
 
--- The state that the tables stand for. There are no memories, and a wire without a value carries 0.
+-- a word of a table of words; what is not there is 0
+abbrev pub word_in : List (List (List ℕ)) → ℕ → ℕ → ℕ → ℕ
+word_in words c m a = get_or (get_or (get_or words c []) m []) a 0
+
+-- the state that the tables stand for; a wire without a value carries 0
 abbrev pub state_of : Tables → State
 state_of t =
     record {
       held = cell t.held;
-      word = λ c m a. 0;
+      word = word_in t.words;
       outside = λ n. get_or t.outside n false;
       carried = λ w. get_or t.carried w false;
     }
@@ -52,6 +58,16 @@ state m = state_of m.tables
 pub record HaveSizes (r : Results) (held : List (List Bool)) : Type 0 where
   pub count : length held ≡ length r.net
   pub sizes : (c : ℕ) (chip : Chip) → slice_get r.net c ≡ Some chip → length (get_or held c []) ≡ chip.nets
+
+-- a word for each address of each memory of a chip
+pub record HasWords (chip : Chip) (words : List (List ℕ)) : Type 0 where
+  pub count : length words ≡ length chip.memories
+  pub sizes : (m : ℕ) (memory : EmuMemory) → slice_get chip.memories m ≡ Some memory → length (get_or words m []) ≡ 2 ^ memory.address_bits
+
+-- the same for each chip
+pub record HaveWords (r : Results) (words : List (List (List ℕ))) : Type 0 where
+  pub count : length words ≡ length r.net
+  pub each : (c : ℕ) (chip : Chip) → slice_get r.net c ≡ Some chip → HasWords chip (get_or words c [])
 
 -- the same for the first chips, with none for the others
 pub record FirstSized (r : Results) (count : ℕ) (held : List (List Bool)) : Type 0 where
@@ -109,13 +125,14 @@ pub record HaveMore (wires : List Wire) (t : ℕ) (actions : List Action) (befor
 
 -- the results can be run, and the tables of what nets show have all their nets
 pub record IsReady (r : Results) (wires : List Wire) (nets : ℕ) (shown : List (List Bool)) : Type 0 where
-  pub runs : CanRun r wires nets
+  pub runs : IsRunnable r wires nets
   pub sizes : HaveSizes r shown
 
 -- the results can be run, and what a machine has for each chip, wire and frame is there
 pub record IsEquipped (r : Results) (wires : List Wire) (t : Tables) (steps : List (List Step)) : Type 0 where
-  pub runs : CanRun r wires (length t.outside)
+  pub runs : IsRunnable r wires (length t.outside)
   pub held : HaveSizes r t.held
+  pub words : HaveWords r t.words
   pub carried : length t.carried ≡ length wires
   pub stepped : AllStepped r steps
 

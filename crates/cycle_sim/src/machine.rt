@@ -1,12 +1,12 @@
 //! The machine, slot by slot and event by event.
 
-ghost use Rattle.std.specs.Prelude.{◌≡◌, ◌<◌, ℕ, Some, All, [], IfOk, get_or, length, slice_get};
+ghost use Rattle.std.specs.Prelude.{◌≡◌, ◌<◌, ℕ, false, Some, All, [], IfOk, get_or, length, replicate, slice_get};
 ghost use Rattle.emu_machine.specs.declared.netlist.Chip.{Chip};
 ghost use Rattle.emu_machine.specs.declared.netlist.EmuRegister.{EmuRegister};
 ghost use Rattle.emu_machine.specs.Netlist.{chip_at};
 ghost use Rattle.emu_machine.specs.State.{after_frame, frame_slots, net_value, present, slot_step};
-ghost use Rattle.cycle_sim.specs.Standing.{CanRun, ChipStands, IsRegister};
-ghost use Rattle.cycle_sim.specs.Tables.{AllStepped, cell, HasPut, HaveSizes, state, state_of};
+ghost use Rattle.cycle_sim.specs.Standing.{CanRun, ChipStands, HasAddress, IsRegister};
+ghost use Rattle.cycle_sim.specs.Tables.{AllShown, AllStepped, cell, HasPut, HaveSizes, HaveWords, state, state_of};
 
 use crate::endings::all_endings;
 use crate::loaded::Loaded;
@@ -15,10 +15,11 @@ use crate::pass::settle_all;
 use crate::slots::{Plan, Timetable, do_frame, do_slot_alone};
 use crate::steps::{Step, steps_of};
 use crate::taken::register_of;
+use crate::words::{ChipWords, word_of};
 use design_core::{PortBit, PortValues};
 use emu_io::{List, NoMemory};
 use emu_machine::{Action, Results};
-use id_arena::{ChipId, ChipNetId, GroupId, Key, RegId, Wire};
+use id_arena::{ChipId, ChipNetId, GroupId, Key, MemId, RegId, Wire};
 use std::alloc::Global;
 use std::marker::Model;
 
@@ -29,8 +30,10 @@ use std::marker::Model;
 pub struct Machine<'a> {
     results: &'a Results,
     wires: &'a [Wire],
-    /// By chip and net what a register holds there.
+    /// By chip and net what a register or read port holds there.
     held: Vec<List<bool>>,
+    /// For each chip the words of its memories.
+    words: Vec<ChipWords>,
     /// By chip and net what the net shows.
     shown: Vec<List<bool>>,
     /// By wire the value that it carries.
@@ -51,16 +54,20 @@ impl<'a> Model for Machine<'a> {
     ghost view = { λ m. record {
       results = m.results.now;
       wires = m.wires.now;
-      tables = tables m.held.items m.outside.items m.carried.items;
+      tables = tables m.held.items m.words.items m.outside.items m.carried.items;
     } };
 
-    ghost invariant = { λ m. IsMachine m.results.now m.wires.now (tables m.held.items m.outside.items m.carried.items) m.shown.items m.steps.items m.endings.items };
+    ghost invariant = { λ m. IsMachine m.results.now m.wires.now (tables m.held.items m.words.items m.outside.items m.carried.items) m.shown.items m.steps.items m.endings.items };
 }
 
 impl<'a> Machine<'a> {
     /// The machine that runs these results over these wires, in the state that it is loaded with. Each
     /// wire carries 0.
-    #[tactic(auto, using(crate::proofs::SlotSteps::carries_nothing))]
+    ///
+    /// By rules A2 and A5 no gate lies on a cycle and all actions fit, where each input that has an outside
+    /// value counts as one of the frame's group. Where several actions of a slot have one target, which rule A6
+    /// forbids, the first counts.
+    #[tactic(auto, using(crate::proofs::Built::runnable))]
     pub fn open(
         alloc: Global,
         results: &'a Results,
@@ -69,21 +76,23 @@ impl<'a> Machine<'a> {
     ) -> Result<Machine<'a>, NoMemory>
         requires runs { CanRun results.now wires.now (length loaded.outside) }
         requires loaded { HaveSizes results.now loaded.held }
+        requires words { HaveWords results.now loaded.words }
         ensures results { IfOk result (λ m. m.results ≡ results.now) }
         ensures wires { IfOk result (λ m. m.wires ≡ wires.now) }
         ensures inputs { IfOk result (λ m. length m.tables.outside ≡ length loaded.outside) }
         ensures state { IfOk result (λ m. state m ≡ state_of loaded) }
     {
+        results.stand();
         let steps = all_steps(alloc, results)?;
         let endings = all_endings(alloc, results, wires)?;
-        let carried = vec![in alloc; false; wires.len()]?;
-        let mut shown = zeros(alloc, results)?;
-        let (held, outside) = loaded.into_tables();
-        settle_all(results, steps.as_slice(), held.as_slice(), &mut shown);
+        let carried = idle_wires(alloc, wires.len())?;
+        let (held, words, outside) = loaded.into_tables();
+        let shown = shown_by(alloc, results, steps.as_slice(), held.as_slice())?;
         Ok(Machine {
             results,
             wires,
             held,
+            words,
             shown,
             carried,
             steps,
@@ -122,6 +131,7 @@ impl<'a> Machine<'a> {
             t as usize,
             self.outside.as_slice(),
             &mut self.held,
+            &mut self.words,
             &mut self.carried,
             &mut self.shown,
         );
@@ -144,6 +154,7 @@ impl<'a> Machine<'a> {
             frame,
             self.outside.as_slice(),
             &mut self.held,
+            &mut self.words,
             &mut self.carried,
             &mut self.shown,
         );
@@ -166,6 +177,14 @@ impl<'a> Machine<'a> {
     {
         let q = register_of(self.results, chip, register).q;
         value_at(self.held.as_slice(), chip, q)
+    }
+
+    /// The word of a memory at an address.
+    pub fn word(&self, chip: ChipId, mem: MemId, address: u32) -> u128
+        requires { HasAddress self.now.results chip.place mem.place address }
+        ensures { result ≡ (state self.now).word chip.place mem.place address }
+    {
+        word_of(self.words.as_slice(), chip, mem, address as u64)
     }
 
     /// What holds of every machine, for its callers: it can run its results over its wires.
@@ -219,6 +238,14 @@ fn timetable_of<'a>(
     Timetable { slots, endings }
 }
 
+/// So many wires that carry 0.
+fn idle_wires(alloc: Global, count: usize) -> Result<Vec<bool>, NoMemory>
+    ensures { IfOk result (λ carried. carried.items ≡ replicate count false) }
+{
+    let carried = vec![in alloc; false; count]?;
+    Ok(carried)
+}
+
 /// The steps of the gates of each chip.
 fn all_steps(alloc: Global, results: &Results) -> Result<Vec<List<Step>>, NoMemory>
     requires { (c : ℕ) (chip : Chip) → slice_get results.now.net c ≡ Some chip → ChipStands chip }
@@ -229,6 +256,23 @@ fn all_steps(alloc: Global, results: &Results) -> Result<Vec<List<Step>>, NoMemo
         steps.push(steps_of(alloc, chip)?)?;
     }
     Ok(steps)
+}
+
+/// What the nets of all chips show, for what their registers hold.
+fn shown_by(
+    alloc: Global,
+    results: &Results,
+    steps: &[List<Step>],
+    held: &[List<bool>],
+) -> Result<Vec<List<bool>>, NoMemory>
+    requires chips { (c : ℕ) (chip : Chip) → slice_get results.now.net c ≡ Some chip → ChipStands chip }
+    requires steps { AllStepped results.now steps.now }
+    requires held { HaveSizes results.now held.now }
+    ensures { IfOk result (λ shown. AllShown results.now held.now shown.items) }
+{
+    let mut shown = zeros(alloc, results)?;
+    settle_all(results, steps, held, &mut shown);
+    Ok(shown)
 }
 
 /// A value for each net of each chip, as yet 0.

@@ -6,12 +6,14 @@ ghost use Rattle.emu_machine.specs.declared.netlist.Chip.{Chip};
 ghost use Rattle.emu_machine.specs.State.{actions_of, slot_step, state_at};
 ghost use Rattle.cycle_sim.specs.Standing.{ChipStands, SlotsStand};
 ghost use Rattle.cycle_sim.specs.Tables.{AllShown, AllStepped, AreEndings, HaveSizes, IsFresh, IsUnderWay, state_of, tables};
-ghost use Rattle.cycle_sim.specs.Takes.{is_direct, sends_nothing, takes_no_net};
+ghost use Rattle.cycle_sim.specs.Takes.{is_direct, leaves_all, takes_no_net};
 
 use crate::pass::settle_all;
 use crate::sent::send_all;
 use crate::steps::Step;
+use crate::stored::store_all;
 use crate::taken::take_all;
+use crate::words::ChipWords;
 use emu_io::List;
 use emu_machine::{Action, Results, Slot};
 use id_arena::{Key, Wire, WireId};
@@ -41,19 +43,20 @@ pub(crate) fn do_frame(
     frame: Timetable<'_>,
     outside: &[bool],
     held: &mut [List<bool>],
+    words: &mut [ChipWords],
     carried: &mut [bool],
     shown: &mut [List<bool>],
 )
     requires slots { SlotsStand plan.results.now plan.wires.now (length outside.now) frame.slots.now }
     requires endings { AreEndings plan.wires.now frame.slots.now frame.endings.now }
-    requires machine { IsFresh plan.results.now plan.wires.now (tables held.old outside.now carried.old) shown.old plan.steps.now }
-    ensures machine { IsFresh plan.entry.results.now plan.entry.wires.now (tables held.new outside.now carried.new) shown.new plan.entry.steps.now }
-    ensures state { state_of (tables held.new outside.now carried.new)
-        ≡ state_at plan.entry.results.now.net plan.entry.wires.now frame.entry.slots.now (state_of (tables held.old outside.now carried.old)) (length frame.entry.slots.now) }
+    requires machine { IsFresh plan.results.now plan.wires.now (tables held.old words.old outside.now carried.old) shown.old plan.steps.now }
+    ensures machine { IsFresh plan.entry.results.now plan.entry.wires.now (tables held.new words.new outside.now carried.new) shown.new plan.entry.steps.now }
+    ensures state { state_of (tables held.new words.new outside.now carried.new)
+        ≡ state_at plan.entry.results.now.net plan.entry.wires.now frame.entry.slots.now (state_of (tables held.old words.old outside.now carried.old)) (length frame.entry.slots.now) }
 {
     let mut fresh = true;
     'slots: for t in 0..frame.slots.len() {
-        fresh = do_slot(plan, frame, t, outside, fresh, held, carried, shown);
+        fresh = do_slot(plan, frame, t, outside, fresh, held, words, carried, shown);
     }
     refresh(plan, fresh, held, shown);
 }
@@ -66,26 +69,27 @@ pub(crate) fn do_slot_alone(
     t: usize,
     outside: &[bool],
     held: &mut [List<bool>],
+    words: &mut [ChipWords],
     carried: &mut [bool],
     shown: &mut [List<bool>],
 )
     requires there { t < length frame.slots.now }
     requires slots { SlotsStand plan.results.now plan.wires.now (length outside.now) frame.slots.now }
     requires endings { AreEndings plan.wires.now frame.slots.now frame.endings.now }
-    requires machine { IsFresh plan.results.now plan.wires.now (tables held.old outside.now carried.old) shown.old plan.steps.now }
-    ensures machine { IsFresh plan.entry.results.now plan.entry.wires.now (tables held.new outside.now carried.new) shown.new plan.entry.steps.now }
-    ensures state { state_of (tables held.new outside.now carried.new)
-        ≡ slot_step plan.entry.results.now.net plan.entry.wires.now frame.entry.slots.now t (state_of (tables held.old outside.now carried.old)) }
+    requires machine { IsFresh plan.results.now plan.wires.now (tables held.old words.old outside.now carried.old) shown.old plan.steps.now }
+    ensures machine { IsFresh plan.entry.results.now plan.entry.wires.now (tables held.new words.new outside.now carried.new) shown.new plan.entry.steps.now }
+    ensures state { state_of (tables held.new words.new outside.now carried.new)
+        ≡ slot_step plan.entry.results.now.net plan.entry.wires.now frame.entry.slots.now t (state_of (tables held.old words.old outside.now carried.old)) }
 {
-    let fresh = do_slot(plan, frame, t, outside, true, held, carried, shown);
+    let fresh = do_slot(plan, frame, t, outside, true, held, words, carried, shown);
     refresh(plan, fresh, held, shown);
 }
 
 /// Does a slot of a frame, and answers whether the nets still show what comes to them. Where they did not
 /// and an action reads one, all get their values first.
 ///
-/// Registers take from the actions that end in the slot, what wires carry from before it among it; then
-/// the actions that begin in it put new values on their wires.
+/// Registers and read nets take from the actions that end in the slot, what wires carry and words hold from
+/// before it among it; then the actions that begin in it put new values on their wires and in words.
 fn do_slot(
     plan: Plan<'_>,
     frame: Timetable<'_>,
@@ -93,16 +97,17 @@ fn do_slot(
     outside: &[bool],
     fresh: bool,
     held: &mut [List<bool>],
+    words: &mut [ChipWords],
     carried: &mut [bool],
     shown: &mut [List<bool>],
 ) -> bool
     requires there { t < length frame.slots.now }
     requires slots { SlotsStand plan.results.now plan.wires.now (length outside.now) frame.slots.now }
     requires endings { AreEndings plan.wires.now frame.slots.now frame.endings.now }
-    requires before { IsUnderWay plan.results.now plan.wires.now (tables held.old outside.now carried.old) shown.old plan.steps.now fresh }
-    ensures after { IsUnderWay plan.entry.results.now plan.entry.wires.now (tables held.new outside.now carried.new) shown.new plan.entry.steps.now result }
-    ensures state { state_of (tables held.new outside.now carried.new)
-        ≡ slot_step plan.entry.results.now.net plan.entry.wires.now frame.entry.slots.now t (state_of (tables held.old outside.now carried.old)) }
+    requires before { IsUnderWay plan.results.now plan.wires.now (tables held.old words.old outside.now carried.old) shown.old plan.steps.now fresh }
+    ensures after { IsUnderWay plan.entry.results.now plan.entry.wires.now (tables held.new words.new outside.now carried.new) shown.new plan.entry.steps.now result }
+    ensures state { state_of (tables held.new words.new outside.now carried.new)
+        ≡ slot_step plan.entry.results.now.net plan.entry.wires.now frame.entry.slots.now t (state_of (tables held.old words.old outside.now carried.old)) }
 {
     let starting = starting_in(frame, t);
     let ending = ending_in(frame, t);
@@ -112,12 +117,14 @@ fn do_slot(
         plan.results,
         plan.wires,
         shown,
+        words,
         outside,
         carried,
         ending,
         held,
     );
     send_all(plan.wires, shown, starting, carried);
+    store_all(plan.results, shown, starting, words);
     are_still_fresh(fresh, ending)
 }
 
@@ -153,9 +160,9 @@ fn refresh(plan: Plan<'_>, spared: bool, held: &[List<bool>], shown: &mut [List<
 
 /// Whether the actions of a slot find what they read: the nets are fresh, or no action reads one.
 fn are_served(wires: &[Wire], starting: &[Action], ending: &[Action], fresh: bool) -> bool
-    ensures { result ≡ (fresh || (list_all (takes_no_net wires.now) ending.now && list_all sends_nothing starting.now)) }
+    ensures { result ≡ (fresh || (list_all (takes_no_net wires.now) ending.now && list_all leaves_all starting.now)) }
 {
-    fresh || (take_no_nets(wires, ending) && send_nothing(starting))
+    fresh || (take_no_nets(wires, ending) && leave_all(starting))
 }
 
 /// Whether what actions give in their last slot hangs on no net.
@@ -191,22 +198,20 @@ pub(crate) fn is_direct(wires: &[Wire], wire: WireId) -> bool
     }
 }
 
-/// Whether no action puts a value on a wire.
-fn send_nothing(actions: &[Action]) -> bool
-    ensures { result ≡ list_all sends_nothing actions.now }
+/// Whether no action puts anything on a wire or in a word.
+fn leave_all(actions: &[Action]) -> bool
+    ensures { result ≡ list_all leaves_all actions.now }
 {
-    actions.iter().all(sends_nothing)
+    actions.iter().all(leaves_all)
 }
 
-/// Whether an action puts nothing on a wire.
-fn sends_nothing(action: &Action) -> bool
-    ensures { result ≡ sends_nothing action.now }
+/// Whether an action puts nothing on a wire and nothing in a word.
+fn leaves_all(action: &Action) -> bool
+    ensures { result ≡ leaves_all action.now }
 {
     match action {
-        Action::Send { .. } => false,
-        Action::Input { .. } | Action::Load { .. } | Action::Write { .. } | Action::Read { .. } => {
-            true
-        }
+        Action::Send { .. } | Action::Write { .. } => false,
+        Action::Input { .. } | Action::Load { .. } | Action::Read { .. } => true,
     }
 }
 

@@ -1,27 +1,29 @@
-//! What the actions that end in a slot give to their registers.
+//! What the actions that end in a slot give to their registers and read nets.
 
 ghost use Rattle.std.specs.Prelude.{◌≡◌, ◌<◌, ◌==◌, false, if◌then◌else◌, Some, All, [], length, get_or, slice_get, slice_set};
 ghost use Rattle.emu_machine.specs.Netlist.{chip_at};
-ghost use Rattle.emu_machine.specs.State.{loaded_value};
-ghost use Rattle.cycle_sim.specs.Standing.{CanTake, IsRegister, RegisterStands};
-ghost use Rattle.cycle_sim.specs.Tables.{HaveSizes, IsReady};
+ghost use Rattle.emu_machine.specs.State.{loaded_value, read_port};
+ghost use Rattle.cycle_sim.specs.Standing.{CanTake, IsReadPort, IsRegister, RegisterStands};
+ghost use Rattle.cycle_sim.specs.Tables.{HaveSizes, HaveWords, IsReady};
 ghost use Rattle.cycle_sim.specs.Takes.{HasTaken, HasTakenOne};
 ghost use Rattle.cycle_sim.specs.Values.{value_in};
 
 use crate::gates::value_of;
 use crate::parts::chip_of;
+use crate::words::{ChipWords, address_of, show_on_chip, word_of};
 use emu_io::List;
-use emu_machine::{Action, EmuRegister, Results};
-use id_arena::{ChipId, ChipNetId, Key, RegId, Wire, WireId};
+use emu_machine::{Action, EmuRead, EmuRegister, Results};
+use id_arena::{ChipId, ChipNetId, Key, MemId, RegId, Wire, WireId};
 
-/// Gives each register that some actions end in its value. All values are read from the nets as they were
-/// shown, and the wires as they carried, before, so no action sees what another one gives. The actions are done from the last on, so that of
-/// several for one register the first counts.
+/// Gives each register and read net that some actions end in its value. All values are read from the nets as
+/// they were shown, the words as they stood, and the wires as they carried, before, so no action sees what
+/// another one gives. The actions are done from the last on, so that of several for one target the first counts.
 #[tactic(auto, using(crate::proofs::Taking::none_taken))]
 pub(crate) fn take_all(
     results: &Results,
     wires: &[Wire],
     shown: &[List<bool>],
+    words: &[ChipWords],
     outside: &[bool],
     carried: &[bool],
     actions: &[Action],
@@ -30,15 +32,16 @@ pub(crate) fn take_all(
     requires ready { IsReady results.now wires.now (length outside.now) shown.now }
     requires actions { All (CanTake results.now wires.now (length outside.now)) actions.now }
     requires carried { length carried.now ≡ length wires.now }
+    requires words { HaveWords results.now words.now }
     requires held { HaveSizes results.now held.old }
     ensures sizes { HaveSizes results.now held.new }
-    ensures taken { HasTaken results.now wires.now shown.now outside.now carried.now actions.now held.old held.new }
+    ensures taken { HasTaken results.now wires.now shown.now words.now outside.now carried.now actions.now held.old held.new }
 {
     let mut left = actions.len();
     'actions: while left > 0 {
         left -= 1;
         let action = action_at(actions, left);
-        take(results, wires, shown, outside, carried, action, held);
+        take(results, wires, shown, words, outside, carried, action, held);
     }
 }
 
@@ -50,12 +53,13 @@ pub(crate) fn action_at(actions: &[Action], place: usize) -> &Action
     &actions[place]
 }
 
-/// Gives the register of an action its value.
+/// Gives the register, or the read nets, of an action their value.
 #[tactic(auto, using(crate::proofs::Taking::put_sizes))]
 fn take(
     results: &Results,
     wires: &[Wire],
     shown: &[List<bool>],
+    words: &[ChipWords],
     outside: &[bool],
     carried: &[bool],
     action: &Action,
@@ -64,9 +68,10 @@ fn take(
     requires ready { IsReady results.now wires.now (length outside.now) shown.now }
     requires action { CanTake results.now wires.now (length outside.now) action.now }
     requires carried { length carried.now ≡ length wires.now }
+    requires words { HaveWords results.now words.now }
     requires held { HaveSizes results.now held.old }
     ensures sizes { HaveSizes results.now held.new }
-    ensures taken { HasTakenOne results.now wires.now shown.now outside.now carried.now action.now held.old held.new }
+    ensures taken { HasTakenOne results.now wires.now shown.now words.now outside.now carried.now action.now held.old held.new }
 {
     match *action {
         Action::Input {
@@ -94,7 +99,13 @@ fn take(
             let value = arriving(ends, wire, net, shown, carried);
             put(held, ends.to, register.q, value);
         }
-        Action::Write { .. } | Action::Read { .. } => unreachable!(),
+        Action::Read { chip, mem, port } => {
+            let port = read_port_of(results, chip, mem, port);
+            let address = address_of(port.address.as_slice(), table_of(shown, chip));
+            let word = word_of(words, chip, mem, address);
+            show_on_chip(held, chip, port.bits.as_slice(), word);
+        }
+        Action::Write { .. } => {}
     }
 }
 
@@ -151,6 +162,18 @@ pub(crate) fn register_of(results: &Results, chip: ChipId, register: RegId) -> E
     *chip_of(results, chip.place() as u64)
         .registers
         .get(register.place() as u64)
+}
+
+/// The read port of these numbers.
+fn read_port_of(results: &Results, chip: ChipId, mem: MemId, port: u32) -> &EmuRead
+    requires { IsReadPort results.now chip.place mem.place port }
+    ensures { read_port results.now.net chip.place mem.place port ≡ Some result.now }
+{
+    chip_of(results, chip.place() as u64)
+        .memories
+        .get(mem.place() as u64)
+        .reads
+        .get(port as u64)
 }
 
 /// What a load gives to a register, if it gives anything.

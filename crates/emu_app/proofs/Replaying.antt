@@ -29,7 +29,7 @@ use Rattle.emu_machine.specs.Mapped.{IsLoaded, IsValueOf, subject}
 use Rattle.emu_machine.specs.Netlist.{IsNetlist, chip_at}
 use Rattle.emu_machine.specs.Plain.{IsPlainResults}
 use Rattle.emu_machine.specs.State.{State, after_frame, run_of}
-use Rattle.cycle_sim.specs.Judged.{IsPlainCase, JudgedCanLoad, JudgedCanRun}
+use Rattle.cycle_sim.specs.Judged.{JudgedCanLoad, JudgedCanRun}
 use Rattle.cycle_sim.specs.Standing.{CanRun}
 use Rattle.cycle_sim.specs.Loading.{CanLoad, FreeAreZero, IsDesignNet}
 use Rattle.schedule_check.specs.Verdict.{all_inputs}
@@ -52,6 +52,7 @@ use Rattle.emu_app.specs.declared.what.What.TheVariants.{Groups, Events}
 use Rattle.emu_app.specs.Reading.{PlainSays, ReplayedSays, StandForOneReplay, TextsTellCasesApart, TextsTellRecordingsApart, case_of}
 use Rattle.emu_app.specs.Runs.{CanReplay, FitsDesign, IsMachineTrace, IsRun, IsUnfit, opening_of}
 use Rattle.emu_app.proofs.OneCases.{is_case, reads_case}
+use Rattle.trace_law.proofs.PlainLoads.{kept_subject}
 use Rattle.emu_app.proofs.Readings.{one_groups}
 
 -- ## Lists
@@ -99,23 +100,16 @@ frame_there p chip results r fit events event has =
     let zeroth : event.group.place ≡ 0 = only_group p event.group.place of_group.group of_group.named in
     omega (arith, first, zeroth)
 
--- plain results for a design without groups make a plain case
-plain_case : (p : Parts) (chip : OneChip) (results : Results) → IsDesign p → IsNetlist results.net → IsPlainResults results → IsPlainCase (case_of p chip results)
-plain_case p chip results design netlist plain =
-    record { design = design; groups = λ k g here. absurd (none k g here); netlist = netlist; plain = plain }
+-- the machine can run what the rules A1 to A9 let run
+pub can_run : JudgedCanRun → (p : Parts) (chip : OneChip) (results : Results) → CanReplay (case_of p chip results) → IsDesign p → CanRun results [] (net_count p)
+can_run law p chip results fit design =
+    law (case_of p chip results) fit.inside design (λ k g here. absurd (none k g here)) (fit.rules A2 (omega arith)) (fit.rules A5 (omega arith))
   where
     none : (k : ℕ) (g : Group) → slice_get [] k ≡ Some g → ⊥
     none k g here = cc
 
--- the machine can run what the rules A1 to A9 let run
-pub can_run : JudgedCanRun → (p : Parts) (chip : OneChip) (results : Results) → CanReplay (case_of p chip results) → IsDesign p → IsNetlist results.net → IsPlainResults results
-    → CanRun results [] (net_count p)
-can_run law p chip results fit design netlist plain =
-    law (case_of p chip results) fit.inside (plain_case p chip results design netlist plain) (fit.rules A2 (omega arith)) (fit.rules A5 (omega arith))
-
-pub can_load : JudgedCanLoad → (p : Parts) (chip : OneChip) (results : Results) → CanReplay (case_of p chip results) → MapFits results → IsPlainResults results → CanLoad p results
-can_load law p chip results fit mapped plain =
-    law (case_of p chip results) fit.inside mapped plain (fit.rules A7 (omega arith))
+pub can_load : JudgedCanLoad → (p : Parts) (chip : OneChip) (results : Results) → CanReplay (case_of p chip results) → CanLoad p results
+can_load law p chip results fit = law (case_of p chip results) fit.inside (fit.rules A7 (omega arith))
 
 -- the map's outputs are nets that are there
 pub spots_there : (results : Results) → MapFits results → (spot : Spot) → Contains results.map.outputs spot → spot.net.place < (chip_at results.net spot.chip.place).nets
@@ -124,11 +118,11 @@ spots_there results mapped spot has = mapped.outputs has.0 spot (placed results.
 -- ## Loading
 
 -- what is loaded from one of two valuations that are the same is loaded from the other
-loaded_same : (p : Parts) (results : Results) (v w : Valuation) (x : State) → CanLoad p results → SameValues p v w → IsLoaded p results w x → IsLoaded p results v x
-loaded_same p results v w x can same loaded =
+loaded_same : (p : Parts) (results : Results) (v w : Valuation) (x : State) → IsPlainResults results → CanLoad p results → SameValues p v w → IsLoaded p results w x → IsLoaded p results v x
+loaded_same p results v w x plain can same loaded =
     record {
       state = record {
-        held = λ c n kept. value (subject results c n) (can.subjects c n kept) (x.held c n) (loaded.state.held c n kept);
+        held = λ c n kept. value (subject results c n) (kept_subject p results plain can c n kept) (x.held c n) (loaded.state.held c n kept);
         words = λ c m of a is there. loaded.state.words c m of a is there ∙ sym (same.words of a there);
       };
       outside = λ n low input. loaded.outside n low input ∙ sym (same.nets n low);
@@ -147,10 +141,10 @@ loaded_same p results v w x can same loaded =
 
 -- what is loaded from an opened valuation is loaded from each of the same opening
 pub opened_loaded : OpenedAreSame → (p : Parts) (o : opened.Opening) (results : Results) (w : Valuation) (x : State)
-    → IsDesign p → IsRanked p → OpeningFits p (stands_for o) → CanLoad p results
+    → IsDesign p → IsRanked p → OpeningFits p (stands_for o) → IsPlainResults results → CanLoad p results
     → IsOpened p (stands_for o) w → IsLoaded p results w x → (v : Valuation) → IsOpened p (stands_for o) v → IsLoaded p results v x
-opened_loaded law p o results w x design ranked fits can opens loaded v is =
-    loaded_same p results v w x can (law p (stands_for o) v w design ranked fits is opens) loaded
+opened_loaded law p o results w x design ranked fits plain can opens loaded v is =
+    loaded_same p results v w x plain can (law p (stands_for o) v w design ranked fits is opens) loaded
 
 -- ## The trace of the machine
 

@@ -35,6 +35,3 @@ pub use laws::{
 };
 pub use status::Status;
 pub use top::run;
-
-#[cfg(test)]
-mod tests;

@@ -2,7 +2,7 @@
 
 ghost use Rattle.std.specs.Prelude.{◌≡◌, ◌<◌, ◌↔◌, [], IfOk, IsTrue, length, nat_lt};
 ghost use Rattle.cycle_sim.specs.Loading.{CanLoad, FreeAreZero};
-ghost use Rattle.cycle_sim.specs.Tables.{HaveSizes, state_of};
+ghost use Rattle.cycle_sim.specs.Tables.{HaveSizes, HaveWords, state_of};
 ghost use Rattle.design_core.specs.Dependency.{IsRanked};
 ghost use Rattle.design_core.specs.Design.{net_count};
 ghost use Rattle.design_core.specs.Plain.{IsPlain};
@@ -244,8 +244,10 @@ fn load(
     opening: &Opening,
 ) -> Result<Loaded, NoMemory>
     requires opens { Opens ranked.now.design opening.now }
+    requires results { IsPlainResults results.now }
     requires mapped { CanLoad ranked.now.design results.now }
     ensures sizes { IfOk result (λ t. HaveSizes results.now t.held) }
+    ensures words { IfOk result (λ t. HaveWords results.now t.words) }
     ensures outside { IfOk result (λ t. length t.outside ≡ net_count ranked.now.design) }
     ensures loaded { IfOk result (λ t. (v : Valuation) → IsOpened ranked.now.design (stands_for opening.now) v → IsLoaded ranked.now.design results.now v (state_of t)) }
     ensures free { IfOk result (λ t. FreeAreZero results.now (state_of t)) }

@@ -40,10 +40,10 @@ use Rattle.facts.proofs.Tests.{must}
 use Rattle.cycle_sim.specs.Loading.{FreeAreZero, is_source}
 use Rattle.cycle_sim.specs.Standing.{ChipStands}
 use Rattle.cycle_sim.proofs.Chips.{chip_here, net_chip_low}
-use Rattle.cycle_sim.proofs.JudgedResults.{can_run}
 use Rattle.cycle_sim.proofs.Sources.{same_through, source_there}
 use Rattle.domain_groups.specs.Traces.{spots_of, trace_of}
 use Rattle.trace_law.specs.Traces.{LoadedTraceIsOne}
+use Rattle.trace_law.proofs.PlainChips.{chip_stands}
 
 -- registers and read ports of two machines hold the same, and each input of the design has one value outside both
 record AreAlike (p : Parts) (chips : List Chip) (x y : State) : Type 0 where
@@ -172,7 +172,7 @@ module _ (c : Case) (inside : ℕ → NodeId → Bool) (is : IsCase c) (plain : 
 
   -- each chip stands
   stands : (k : ℕ) (one : Chip) → slice_get c.results.net k ≡ Some one → ChipStands one
-  stands = (can_run c inside (record { design = is.design; groups = is.groups; netlist = is.netlist; plain = plain }) no_cycle holds).chips
+  stands = chip_stands c.results plain is.netlist (λ k j. no_cycle (place.Gate (record { place = k }) j))
 
   -- what a net shows is a function of what registers and read ports hold
   same_net : (x y : State) → AreAlike c.design c.results.net x y → (k n : ℕ) → n < (chip_at c.results.net k).nets

@@ -8,7 +8,7 @@ abbrev pub invariant-actions : goal.invariant-actions
 invariant-actions l = record {
   low : l.left ≤ length l.actions;
   sizes : HaveSizes l.results l.held;
-  taken : HasTaken l.results l.wires l.shown l.outside l.carried (drop l.left l.actions) l.initial.held l.held;
+  taken : HasTaken l.results l.wires l.shown l.words l.outside l.carried (drop l.left l.actions) l.initial.held l.held;
 }
 
 abbrev pub decreases-actions : goal.decreases-actions

@@ -16,14 +16,14 @@ use Rattle.emu_app.proofs.replay.replay_recording.Goals as goal
 
 pub load-requires-clause-mapped : goal.load-requires-clause-mapped
 load-requires-clause-mapped g c =
-    can_load c.judged_can_load.ensures c.args.ranked.now.design c.args.chip c.args.results.now c.requires.fit c.stand.ensures.results.mapped c.requires.results
+    can_load c.judged_can_load.ensures c.args.ranked.now.design c.args.chip c.args.results.now c.requires.fit
 
 pub open-requires-clause-runs : goal.open-requires-clause-runs
 open-requires-clause-runs g c =
     let p : Parts = c.args.ranked.now.design in
     let design : IsDesign p = subst (λ (q : Parts). IsDesign q) c.design-design.ensures c.stands.ensures.design in
     subst (λ (nets : ℕ). CanRun c.args.results.now [] nets) (sym c.in-Ok.ensures.outside)
-    (can_run c.judged_can_run.ensures p c.args.chip c.args.results.now c.requires.fit design c.stand.ensures.netlist.netlist c.requires.results)
+    (can_run c.judged_can_run.ensures p c.args.chip c.args.results.now c.requires.fit design)
 
 pub replay_lines-requires-clause-frames : goal.replay_lines-requires-clause-frames
 replay_lines-requires-clause-frames g c =
