@@ -1,7 +1,7 @@
 -- Names of nets among all names of a module, and the rows of nets.
-use Rattle.std.proofs.Common.{◌≡◌, ◌+◌, ◌<◌, ◌≤◌, ℕ, zero, suc, subst, Bool, true, false, not, ◌&&◌, ◌||◌, cond, Option, Some, None, List, [], ◌∷◌, ◌++◌, ap, inl, inr, is_some, min, sym, ◌∙◌, refl, arith, append_assoc, append-nil, length, length-append, drop-cons, add-one, get_or, slice_get, take, drop, map}
+use Rattle.std.proofs.Common.{◌≡◌, ◌+◌, ◌<◌, ◌≤◌, ℕ, zero, suc, subst, Bool, true, false, ◌&&◌, ◌||◌, cond, Option, Some, None, List, [], ◌∷◌, ◌++◌, ap, is_some, min, sym, ◌∙◌, refl, arith, append_assoc, append-nil, length, length-append, drop-cons, add-one, get_or, slice_get, take, drop}
 use Rattle.std.specs.Prelude.{bytes_eq, unwrap_or}
-use Rattle.std.specs.List.{list_any, sum_by}
+use Rattle.std.specs.List.{sum_by}
 use Rattle.std.proofs.lemmas.Bool.{false_from_ne_true}
 use Rattle.std.proofs.lemmas.List.{get_or_append_left, get_or-take, length-take, length-take-le, take-append-drop, take_at}
 use Rattle.std.proofs.lemmas.List.Quantifiers.{position-Some}
@@ -11,19 +11,19 @@ use Rattle.std.proofs.lemmas.List.Folds.{list_any-append, list_any_at}
 use Rattle.std.proofs.lemmas.Slice.Eq.{bytes_eq-Decides}
 use Rattle.std.proofs.Math.Seq.{get_or-append_seam}
 use Rattle.id_arena.specs.Names.{place_among, with_name}
-use Rattle.id_arena.proofs.FirstPlaces.{place_among-Some, position-is}
+use Rattle.id_arena.proofs.FirstPlaces.{position-is}
 use Rattle.verilog_tree.specs.declared.source.IndexRange.{IndexRange}
 use Rattle.verilog_lex.specs.declared.token.Token.{Token}
 use Rattle.verilog_tree.specs.declared.source.Module.{Module}
 use Rattle.module_nets.specs.declared.table.Table.{Table}
 use Rattle.module_nets.specs.declared.mention.Class.{Class}
-use Rattle.module_nets.specs.declared.mention.Class.TheVariants.{Head, Direction, Other, Use, Own}
+use Rattle.module_nets.specs.declared.mention.Class.TheVariants.{Head, Other, Use, Own}
 use Rattle.module_nets.specs.declared.mention.Mention.{Mention}
 use Rattle.module_nets.specs.declared.mention.Role.{Role}
 use Rattle.module_nets.specs.declared.mention.Role.TheVariants.{Bare, Headed, Directed, Wired, Supplied, Owned, Used}
 use Rattle.module_nets.specs.declared.nets.Net.{Net}
 use Rattle.module_nets.specs.declared.seen.Seen.{Seen}
-use Rattle.module_nets.specs.Declarations.{IsFaultless, counted, dir_in, first_given, has_role, is_of, named, net_names, range_in, range_of, width_of}
+use Rattle.module_nets.specs.Declarations.{IsFaultless, counted, first_given, is_of, named, net_names, range_in, width_of}
 use Rattle.module_nets.specs.Nets.{AreNets, IsNet, counted_in}
 use Rattle.module_nets.specs.Rows.{IsTable, all_names, net_from, rows_from}
 use Rattle.module_nets.specs.Seen.{fresh}
@@ -84,10 +84,21 @@ place_at names k name d at =
     ap (λ l. place_among l name) (sym split) ∙ place_there (take k names) (drop (k + 1) names) name (subst AreDifferent (sym split) d) ∙ ap Some long
 
 -- what is found among the first names, and what is not
-pub found_front : (names : List Name) (n p : ℕ) (text : Name) → n ≤ length names → place_among names text ≡ Some p → p < n → slice_get (take n names) p ≡ Some text
+pub found_front : (names : List Name) (n p : ℕ) (text : Name) → n ≤ length names → place_among names text ≡ Some p → p < n → Some p ≡ place_among (take n names) text
 found_front names n p text all at less =
-    let there = place_among-Some names text p at in
-    slice_get_read (take n names) n p text (sym (length-take-le n names all)) less (sym (get_or-take n names p text less ∙ get_or_from_slice_get names p text text there))
+    let here = position-Some (bytes_eq text) names p [] at in
+    let long : length (take n names) ≡ n = length-take-le n names all in
+    let within : p < length (take n names) = omega (arith, less, long) in
+    sym (position-is (bytes_eq text) (take n names) p [] within
+    (λ k before. let early : k < n = omega (arith, before, less) in ap (bytes_eq text) (get_or-take n names k [] early) ∙ here.2 k before)
+    (ap (bytes_eq text) (get_or-take n names p [] less) ∙ here.1))
+
+not_found : (names : List Name) (text : Name) → is_among names text ≡ false → None ≡ place_among names text
+not_found names text gone = go (place_among names text) refl
+  where
+    go : (found : Option ℕ) → place_among names text ≡ found → None ≡ found
+    go None e = refl
+    go (Some q) e = (let no : true ≡ false = ap (λ o. is_some o) (sym e) ∙ is_some-place names text ∙ gone in cc)
 
 absent_among : (names : List Name) (n : ℕ) (text : Name) → n ≤ length names → ((q : ℕ) → q < n → bytes_eq text (get_or names q []) ≡ false) → is_among (take n names) text ≡ false
 absent_among names n text all none = false_from_ne_true (is_among (take n names) text) (λ among. go (place_among (take n names) text) refl among)
@@ -101,17 +112,17 @@ absent_among names n text all none = false_from_ne_true (is_among (take n names)
         let less : q < n = omega (arith, within, long) in
         let no : true ≡ false = sym here.1 ∙ ap (bytes_eq text) (get_or-take n names q [] less) ∙ none q less in cc
 
-pub absent_front : (names : List Name) (n p : ℕ) (text : Name) → n ≤ length names → place_among names text ≡ Some p → n ≤ p → is_among (take n names) text ≡ false
+pub absent_front : (names : List Name) (n p : ℕ) (text : Name) → n ≤ length names → place_among names text ≡ Some p → n ≤ p → None ≡ place_among (take n names) text
 absent_front names n p text all at past =
     let here = position-Some (bytes_eq text) names p [] at in
-    absent_among names n text all (λ q less. here.2 q (omega (arith, less, past)))
+    not_found (take n names) text (absent_among names n text all (λ q less. here.2 q (omega (arith, less, past))))
 
-pub absent_all : (names : List Name) (n : ℕ) (text : Name) → n ≤ length names → place_among names text ≡ None → is_among (take n names) text ≡ false
+pub absent_all : (names : List Name) (n : ℕ) (text : Name) → n ≤ length names → place_among names text ≡ None → None ≡ place_among (take n names) text
 absent_all names n text all at =
-    absent_among names n text all (λ q less. false_from_ne_true (bytes_eq text (get_or names q [])) (λ same.
+    not_found (take n names) text (absent_among names n text all (λ q less. false_from_ne_true (bytes_eq text (get_or names q [])) (λ same.
     let within : q < length names = omega (arith, less, all) in
     let among : is_among names text ≡ true = list_any_at (bytes_eq text) names q [] within same in
-    let no : false ≡ true = ap (λ o. is_some o) (sym at) ∙ is_some-place names text ∙ among in cc))
+    let no : false ≡ true = ap (λ o. is_some o) (sym at) ∙ is_some-place names text ∙ among in cc)))
 
 -- each mention's name is among all names
 or_right : (a b : Bool) → b ≡ true → (a || b) ≡ true

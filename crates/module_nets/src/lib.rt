@@ -19,4 +19,6 @@ mod survey;
 mod table;
 
 pub use fault::{Cause, NetFault};
+pub use name::{start_of, text_at};
 pub use nets::{ModuleNets, Net, read_nets};
+pub use survey::{BIT_LIMIT, width_of};

@@ -9,7 +9,7 @@ use verilog_lex::Tokens;
 
 /// The name that a token is; no bytes for any other token.
 #[tactic(auto, unfolding(crate::specs::Names::text_of))]
-pub(crate) fn text_at<'a>(source: &'a [u8], tokens: &Tokens, place: u32) -> &'a [u8]
+pub fn text_at<'a>(source: &'a [u8], tokens: &Tokens, place: u32) -> &'a [u8]
     ensures { result.now ≡ text_of source.now tokens.now place }
 {
     name_at(source, tokens, place)
@@ -23,7 +23,7 @@ pub(crate) fn is_implicit(tokens: &Tokens, place: u32) -> bool
 }
 
 /// The first byte of a token; 0 for a place without one.
-pub(crate) fn start_of(tokens: &Tokens, place: u32) -> u32
+pub fn start_of(tokens: &Tokens, place: u32) -> u32
     ensures { result ≡ start_of tokens.now place }
 {
     if place < tokens.len() {

@@ -1,7 +1,8 @@
 //! The nets of a module.
 
-ghost use Rattle.std.specs.Prelude.{◌≡◌, ◌<◌, false, IfOk, IfSome, MatchOption, Some, length, slice_get, take};
-ghost use Rattle.module_nets.specs.Names.{is_among, text_of};
+ghost use Rattle.std.specs.Prelude.{◌≡◌, ◌<◌, IfOk, Some, length, slice_get, take};
+ghost use Rattle.id_arena.specs.Names.{place_among};
+ghost use Rattle.module_nets.specs.Names.{text_of};
 ghost use Rattle.module_nets.specs.Nets.{Answers};
 ghost use Rattle.module_nets.specs.Rows.{Judges, all_names, rows_from};
 
@@ -55,7 +56,7 @@ impl ModuleNets {
 
     /// The place of the net with a name.
     pub fn find(&self, text: &[u8]) -> Option<u32>
-        ensures { MatchOption result (is_among self.now.names text.now ≡ false) (λ place. slice_get self.now.names place ≡ Some text.now) }
+        ensures { result ≡ place_among self.now.names text.now }
     {
         let place = self.names.find(text)?;
         if u64::from(place) < self.rows.len() {

@@ -16,10 +16,10 @@ use verilog_lex::Tokens;
 use verilog_tree::IndexRange;
 
 /// The greatest number of bits of a net or an expression.
-pub(crate) const BIT_LIMIT: u64 = 65_536;
+pub const BIT_LIMIT: u64 = 65_536;
 
 /// The number of bits of a range; one where there is none.
-pub(crate) fn width_of(range: Option<IndexRange>) -> u64
+pub fn width_of(range: Option<IndexRange>) -> u64
     ensures { result ≡ width_of range }
 {
     match range {

@@ -1,0 +1,5 @@
+mod Adding
+mod Noting
+mod Numbered
+mod Pushing
+mod Targets

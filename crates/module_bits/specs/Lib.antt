@@ -1,0 +1,7 @@
+pub mod Names
+pub mod Bits
+pub mod Sized
+pub mod Ports
+pub mod Readings
+pub mod Noted
+pub mod Laws
