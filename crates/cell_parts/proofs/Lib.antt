@@ -1,0 +1,5 @@
+mod Gathering
+mod Pairs
+mod Filling
+mod Tying
+mod Lengths
