@@ -1,0 +1,6 @@
+mod OneName
+mod OneAnswer
+mod OneDesign
+mod Declared
+mod Worked
+mod WholeWorked

@@ -1,0 +1,14 @@
+pub mod Steps
+pub mod Pieces
+pub mod Places
+pub mod Faults
+pub mod Links
+pub mod Items
+pub mod Primitives
+pub mod Cells
+pub mod Instances
+pub mod Flattening
+pub mod Stands
+pub mod Laws
+pub mod Examples
+pub mod WholeExamples
