@@ -1,0 +1,15 @@
+mod Joining
+mod Performing
+mod Items
+mod Gates
+mod Values
+mod Placing
+mod Naming
+mod Marking
+mod Tying
+mod Sharing
+mod Linking
+mod TwiceNamed
+mod Porting
+mod OwnNets
+mod Admitting

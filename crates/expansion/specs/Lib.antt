@@ -1,0 +1,7 @@
+pub mod Outcomes
+pub mod Room
+pub mod Sockets
+pub mod Targets
+pub mod Ties
+pub mod Primitives
+pub mod Walk
