@@ -1,0 +1,10 @@
+pub mod Framing
+pub mod Acting
+pub mod Driven
+pub mod Weighing
+pub mod Columns
+pub mod Subjects
+pub mod Parts
+pub mod Marking
+pub mod Lost
+pub mod Granted

@@ -1,0 +1,7 @@
+pub mod ShapeCase
+pub mod Actions
+pub mod Weights
+pub mod Tables
+pub mod Ports
+pub mod Frames
+pub mod Mapped

@@ -1,0 +1,30 @@
+//! The rules of acceptance A1, A3 to A9, judged of any results of any design, groups and board. The rule
+//! A2, and those from A10 on, are not judged here.
+//!
+//! Each rule has a function that names the least place at which the rule fails, or says that it holds
+//! (`specs/Least.antt` of `use_check`). Where a rule is asked of what an earlier one already grants, that the earlier rule
+//! holds is a condition of its function.
+#![tactic(auto)]
+
+mod actions;
+mod chips;
+mod fitting;
+mod frames;
+mod gates;
+mod mapped;
+mod memories;
+mod registers;
+mod shape_case;
+mod tables;
+mod unmapped;
+mod using;
+mod weights;
+
+pub use actions::{find_a5, find_a8};
+pub use chips::find_a1;
+pub use fitting::find_a7;
+pub use frames::find_a4;
+pub use shape_case::ShapeCase;
+pub use unmapped::find_a9;
+pub use using::find_a6;
+pub use weights::find_a3;

@@ -1,0 +1,13 @@
+use Rattle.std.proofs.Common.{[], ◌∷◌}
+use Rattle.emu_machine.specs.State.{frame_slots}
+use Rattle.emu_machine.specs.Acceptance.{earlier_actions}
+use Rattle.use_check.specs.Uses.{FailsUse, Tell}
+use Rattle.use_check.proofs.Walk.{NoneBefore}
+use Rattle.use_check.proofs.uses.find_in_frame.Given as goal
+
+abbrev pub invariant-each : goal.invariant-each
+invariant-each l =
+    record {
+      told : Tell l.judged.board.now.wires l.judged.results.now.net (earlier_actions (frame_slots l.judged.results.now l.frame) l.t 0) l.t l.tables.free l.tables.stamps;
+      none : NoneBefore (FailsUse l.judged.board.now.wires l.judged.results.now) (l.frame ∷ []) l.t;
+    }
