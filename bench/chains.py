@@ -3,11 +3,12 @@
 
 First designs that `check` reads and then refuses for their last gate, an `and`: fetching, tokens, grammar.
 Then whole commands `check` that end with `accepted`: all seven texts are read and judged. Then `settle` and
-`replay` of events that change the one input each time, and `replay` with frames of several slots. Prints for each size a line for each program, with
+`replay` of events that change the one input each time, `replay` with frames of several slots, and `settle` with
+a chain for each of 32 groups. Prints for each size a line for each program, with
 seconds and the most memory (the best of several runs, the two programs in turn, since a machine that others
 share is slower at one time than at another), and one with the ratios of the two. Run it after `rt run` in
 `crates/emu`, which proves and builds the program; `rustc` must be on the path. Words after the script's name
-choose the kinds of row: read, check, settle, replay, slots.
+choose the kinds of row: read, check, settle, replay, slots, groups.
 """
 import os
 import resource
@@ -27,6 +28,8 @@ WORDS = {
 }
 SIZES = (10_000, 50_000, 200_000)
 EVENTS = 1_000
+GROUPS = 32
+GROUP_EVENTS = 3_000
 
 
 def design(count, comment):
@@ -78,6 +81,30 @@ def events():
 def trace(count):
     """What the events give: after so many inverters the output is the input, or its opposite."""
     return "".join("%d n%d=%d\n" % (k, count, (k + count) % 2) for k in range(1, EVENTS + 1))
+
+
+def group_texts(count):
+    """Chains of so many inverters in all, each from an input in a group of its own."""
+    length = count // GROUPS
+    ports = ",".join(f"a{g},y{g}" for g in range(GROUPS))
+    parts = [f"module t({ports});\n"]
+    parts += [f"input a{g}; output y{g};\n" for g in range(GROUPS)]
+    for g in range(GROUPS):
+        names = [f"a{g}"] + [f"w{g}_{k}" for k in range(1, length)] + [f"y{g}"]
+        parts += [f"  not ({names[k + 1]}, {names[k]});\n" for k in range(length)]
+    groups = ",".join('{"name":"g%d","ports":["a%d"]}' % (g, g) for g in range(GROUPS))
+    lines = "".join("g%d a%d=%d\n" % (k % GROUPS, k % GROUPS, 1 - k // GROUPS % 2) for k in range(GROUP_EVENTS))
+    written = ["".join(parts) + "endmodule\n", '{"version":1,"cells":[]}\n', '{"groups":[%s]}\n' % groups]
+    return written + ["", "", "", "", "{}\n", lines]
+
+
+def group_trace(count):
+    """The groups take turns, each turns its input over, and each chain shows its input, or its opposite."""
+    odd, values, lines = count // GROUPS % 2, [0] * GROUPS, []
+    for k in range(GROUP_EVENTS):
+        values[k % GROUPS] = 1 - k // GROUPS % 2
+        lines.append("%d %s\n" % (k + 1, " ".join("y%d=%d" % (g, (values[g] + odd) % 2) for g in range(GROUPS))))
+    return "".join(lines)
 
 
 def measure(program, folder, command):
@@ -137,6 +164,12 @@ def slot_rows(folder, plain):
         compare(folder, "replay", label, texts(SIZES[1], slots) + ["{}\n", events()], trace(SIZES[1]), plain)
 
 
+def group_rows(folder, plain):
+    for count in (10_000, 100_000):
+        label = f"settle {count} inverters {GROUP_EVENTS} events of {GROUPS} groups"
+        compare(folder, "settle", label, group_texts(count), group_trace(count), plain)
+
+
 def main(kinds):
     resource.setrlimit(resource.RLIMIT_CORE, (0, 0))
     with tempfile.TemporaryDirectory() as folder:
@@ -149,6 +182,8 @@ def main(kinds):
                 check_rows(folder, plain)
             elif kind == "slots":
                 slot_rows(folder, plain)
+            elif kind == "groups":
+                group_rows(folder, plain)
             else:
                 run_rows(folder, plain, kind)
 
@@ -156,4 +191,4 @@ def main(kinds):
 if sys.argv[1:2] == ["--measure"]:
     measure(*sys.argv[2:])
 else:
-    main(sys.argv[1:] or ["read", "check", "settle", "replay", "slots"])
+    main(sys.argv[1:] or ["read", "check", "settle", "replay", "slots", "groups"])

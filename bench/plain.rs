@@ -3,13 +3,13 @@
 //!
 //! It stands here to be compared with: what the proved program costs in time and memory. It reads the
 //! texts of a command, makes tokens and a tree, and flattens; `check` and `replay` read netlist, schedule
-//! and map and judge the rules for this form; `settle` and `replay` read opening and events and print a
-//! trace. Compile it with `rustc -O`.
+//! and map and judge the rules for this form; `settle` and `replay` read groups, opening and events and
+//! print a trace; `replay` takes no groups. Compile it with `rustc -O`.
 
 mod json;
 
 use json::Json;
-use std::collections::HashMap;
+use std::collections::{HashMap, HashSet};
 use std::io::Write;
 use std::process::exit;
 
@@ -551,14 +551,40 @@ fn opening(tree: &Json, inputs: &Inputs) -> Option<Vec<(u32, bool)>> {
     }
 }
 
+/// The inputs of each group, by its name; `*` has all.
+type Groups = HashMap<Vec<u8>, HashSet<u32>>;
+
+/// The groups of a text; none where two have one name, or one has no port, one twice, or one that is not there.
+fn groups(tree: &Json, inputs: &Inputs) -> Option<Groups> {
+    let (mut groups, mut taken) = (Groups::new(), HashSet::new());
+    for group in tree.get("groups")?.list()? {
+        let Some(Json::Text(name)) = group.get("name") else {
+            return None;
+        };
+        let mut nets = HashSet::new();
+        for port in group.get("ports")?.list()? {
+            let Json::Text(port) = port else {
+                return None;
+            };
+            let net = *inputs.get(port.as_bytes())?;
+            taken.insert(net).then_some(())?;
+            nets.insert(net);
+        }
+        (!nets.is_empty() && groups.insert(name.as_bytes().to_vec(), nets).is_none()).then_some(())?;
+    }
+    groups.insert(b"*".to_vec(), inputs.values().copied().collect());
+    Some(groups)
+}
+
 /// The values that the words of an event give. `set` has for each net the last line that gave it one.
-fn event(line: &[u8], number: usize, inputs: &Inputs, set: &mut [usize]) -> Option<Vec<(u32, bool)>> {
+fn event(line: &[u8], number: usize, groups: &Groups, inputs: &Inputs, set: &mut [usize]) -> Option<Vec<(u32, bool)>> {
     let mut words = line.split(|byte| matches!(byte, b' ' | b'\t')).filter(|word| !word.is_empty());
-    (words.next()? == b"*").then_some(())?;
+    let group = groups.get(words.next()?)?;
     let mut values = Vec::new();
     for word in words {
         let equals = word.iter().rposition(|byte| *byte == b'=')?;
         let net = *inputs.get(&word[..equals])?;
+        group.contains(&net).then_some(())?;
         if std::mem::replace(&mut set[net as usize], number) == number {
             return None;
         }
@@ -567,7 +593,7 @@ fn event(line: &[u8], number: usize, inputs: &Inputs, set: &mut [usize]) -> Opti
     Some(values)
 }
 
-fn events(text: &[u8], design: &Design, inputs: &Inputs) -> Option<Vec<Vec<(u32, bool)>>> {
+fn events(text: &[u8], design: &Design, groups: &Groups, inputs: &Inputs) -> Option<Vec<Vec<(u32, bool)>>> {
     let mut set = vec![0; design.ports.len() + 2];
     let mut events = Vec::new();
     for (line, number) in text.split(|byte| *byte == b'\n').zip(1..) {
@@ -576,7 +602,7 @@ fn events(text: &[u8], design: &Design, inputs: &Inputs) -> Option<Vec<Vec<(u32,
         if line.first() == Some(&b'#') || line.iter().all(|byte| matches!(byte, b' ' | b'\t')) {
             continue;
         }
-        events.push(event(line, number, inputs, &mut set)?);
+        events.push(event(line, number, groups, inputs, &mut set)?);
     }
     Some(events)
 }
@@ -669,10 +695,11 @@ fn read_results(board_text: &[u8], netlist: &[u8], schedule_text: &[u8], map_tex
 }
 
 /// The opened valuation, and the events.
-fn read_run(design: &Design, order: &[u32], opening_text: &[u8], events_text: &[u8]) -> (Vec<bool>, Vec<Vec<(u32, bool)>>) {
+fn read_run(design: &Design, order: &[u32], groups_text: &[u8], opening_text: &[u8], events_text: &[u8]) -> (Vec<bool>, Vec<Vec<(u32, bool)>>) {
     let inputs = design.inputs.iter().map(|net| (design.name(*net), *net)).collect();
+    let Some(groups) = groups(&tree(groups_text, "groups"), &inputs) else { refuse("groups") };
     let Some(given) = opening(&tree(opening_text, "opening"), &inputs) else { refuse("opening") };
-    let Some(events) = events(events_text, design, &inputs) else { refuse("events") };
+    let Some(events) = events(events_text, design, &groups, &inputs) else { refuse("events") };
     (opened(design, order, &given), events)
 }
 
@@ -707,18 +734,19 @@ fn main() {
         _ => None,
     };
     let Some(ranked) = order(&design.gates, drives) else { refuse("design") };
-    if tree(&texts[2], "groups").get("groups").and_then(Json::list).map_or(true, |groups| !groups.is_empty()) {
+    let is_alone = tree(&texts[2], "groups").get("groups").and_then(Json::list).is_some_and(<[_]>::is_empty);
+    if words[0] != "settle" && !is_alone {
         refuse("groups")
     }
     match &texts[3..] {
         [opening, events] => {
-            let (values, events) = read_run(&design, &ranked, opening, events);
+            let (values, events) = read_run(&design, &ranked, &texts[2], opening, events);
             print(&settle(&design, &ranked, values, &events));
         }
         [board, netlist, schedule, map, run @ ..] => {
             let results = read_results(board, netlist, schedule, map);
             if let [opening, events] = run {
-                let (values, events) = read_run(&design, &ranked, opening, events);
+                let (values, events) = read_run(&design, &ranked, &texts[2], opening, events);
                 let Some(order) = judge(&design, &results, false) else { reject() };
                 print(&replay(&design, &results, &order, values, &events));
             } else if judge(&design, &results, true).is_some() {
