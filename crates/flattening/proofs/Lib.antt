@@ -4,3 +4,14 @@ mod OneDesign
 mod Declared
 mod Worked
 mod WholeWorked
+mod Everywhere
+mod TwoTerminals
+mod SoundCells
+mod Passing
+mod GoodPieces
+mod Growing
+mod GoodBits
+mod GoodGates
+mod GoodCells
+mod GoodTies
+mod OwnPins

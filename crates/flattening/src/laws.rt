@@ -2,7 +2,7 @@
 
 ghost use Rattle.flattening.specs.Examples.{ExamplesHold};
 ghost use Rattle.flattening.specs.WholeExamples.{WholeExamplesHold};
-ghost use Rattle.flattening.specs.Laws.{DeclarationsAreTold, EachTextHasOneDesign, EachTreeHasOneAnswer};
+ghost use Rattle.flattening.specs.Laws.{DeclarationsAreTold, EachTextHasOneDesign, EachTreeHasOneAnswer, FlattenedPartsAreWhole};
 
 /// What is given by a text and a table of cells has one answer, want of memory aside.
 pub fn each_tree_has_one_answer()
@@ -22,6 +22,11 @@ pub fn each_text_has_one_design()
 /// the same first fault.
 pub fn declarations_are_told()
     ensures { DeclarationsAreTold }
+{}
+
+/// What is flattened out of a text may be given to `Design::build`, which refuses it for its drivers alone.
+pub fn flattened_parts_are_whole()
+    ensures { FlattenedPartsAreWhole }
 {}
 
 /// Worked examples of ranges, primitives and cells.
