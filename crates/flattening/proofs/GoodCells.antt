@@ -165,7 +165,7 @@ module _ (n : ℕ) (w : Wires) (some : 0 < n) (wires : AreWires n w) where
 
 -- ---- names of new nets
 
-abbrev StandsIn : ℕ → NetName → Type 0
+abbrev pub StandsIn : ℕ → NetName → Type 0
 StandsIn scopes name = name.scope < scopes
 
 indices_long : (width : ℕ) → length (new_indices width) ≡ width

@@ -2,6 +2,7 @@
 use Rattle.std.proofs.Common.{◌≡◌, ◌+◌, ◌<◌, ◌≤◌, ◌∙◌, ℕ, zero, suc, Bool, true, false, cond, List, [], ◌∷◌, ◌++◌, Option, Some, None, ap, arith, length, map, option_map, refl, slice_get, subst, sym}
 use Rattle.std.specs.Prelude.{IfSome, bytes_eq, find, option_and_then}
 use Rattle.std.specs.List.{enumerate_from, zip}
+use Rattle.std.proofs.lemmas.List.{length-map}
 use Rattle.std.proofs.lemmas.Option.{none-some, option_and_then_some, same_Some, slice_get-map}
 use Rattle.std.proofs.lemmas.Slice.Eq.{bytes_eq-Decides}
 use Rattle.facts.proofs.Counting.{find_at}
@@ -138,3 +139,31 @@ ties_wide g here inst name width pins tests wide =
     (let tie = tie_at g here inst.links pins k tied at in
     tied_wide g here (connected g inst.links k tied.pin.name) tied width tie.is
     (λ e found. links_long g here name width pins wide k tied.pin tie.at called inst.links e values found)))
+
+-- ---- pins and ties stand place by place
+
+numbered_long : {X : Type 0} (k : ℕ) (xs : List X) → length (enumerate_from k xs) ≡ length xs
+numbered_long k [] = refl
+numbered_long k (x ∷ xs) = ap suc (numbered_long (k + 1) xs)
+
+ties_long : (g : Given) (here : Inside) (links : Links) (pins : List Pin) → length (ties g here links (pin_sockets pins)) ≡ length pins
+ties_long g here links pins = length-map (enumerate_from 0 (pin_sockets pins)) _ ∙ numbered_long 0 (pin_sockets pins) ∙ length-map pins _
+
+tied_there : (pins : List Pin) (tied : List (Option (List NetId))) (k : ℕ) (pin : Pin) → length tied ≡ length pins → slice_get pins k ≡ Some pin → (t : TiedPin) × (slice_get (tied_by pins tied) k ≡ Some t) × (t.pin ≡ pin)
+tied_there [] tied k pin long at = absurd (none-some pin at)
+tied_there (p ∷ pins) [] k pin long at = absurd (omega (arith, long))
+tied_there (p ∷ pins) (tie ∷ tied) zero pin long at = (record { pin = p; tie = tie }, refl, same_Some p pin at)
+tied_there (p ∷ pins) (tie ∷ tied) (suc k) pin long at = tied_there pins tied k pin (omega (arith, long)) at
+
+-- pins with what is connected to them, place by place, which is as wide as it must be
+pub record AreTied (pins : List Pin) (tied : List TiedPin) : Type 0 where
+  pub there : (k : ℕ) (pin : Pin) → slice_get pins k ≡ Some pin → (t : TiedPin) × (slice_get tied k ≡ Some t) × (t.pin ≡ pin)
+  pub back : (k : ℕ) (t : TiedPin) → slice_get tied k ≡ Some t → slice_get pins k ≡ Some t.pin
+  pub wide : (name : Name) (width : ℕ) → Every (IsWide name width) pins → Every (IsTiedWide name width) tied
+
+pub ties_are : (g : Given) (here : Inside) (inst : Inst) (pins : List Pin) → Every Passes (connection_tests g here (pin_sockets pins) inst) → AreTied pins (tied_by pins (ties g here inst.links (pin_sockets pins)))
+ties_are g here inst pins tests = record {
+  there = λ k pin at. tied_there pins (ties g here inst.links (pin_sockets pins)) k pin (ties_long g here inst.links pins) at;
+  back = λ k t at. (tie_at g here inst.links pins k t at).at;
+  wide = λ name width wide. ties_wide g here inst name width pins tests wide;
+}

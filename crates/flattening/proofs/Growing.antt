@@ -128,7 +128,7 @@ takes_none nets memory (element.Flop f ∷ es) all = takes_none nets memory es a
 takes_none nets memory (element.Latch l ∷ es) all = takes_none nets memory es all.1
 takes_none nets memory (element.Memory m ∷ es) all = absurd all.0.apart
 
-simple_good : (nets : ℕ) (es : List Element) → Every (IsSimple nets) es → Every (IsGoodElement nets) es
+pub simple_good : (nets : ℕ) (es : List Element) → Every (IsSimple nets) es → Every (IsGoodElement nets) es
 simple_good nets [] all = tt
 simple_good nets (e ∷ es) all = (all.0.good, simple_good nets es all.1)
 

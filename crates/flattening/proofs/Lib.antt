@@ -15,3 +15,7 @@ mod GoodGates
 mod GoodCells
 mod GoodTies
 mod OwnPins
+mod GoodMemories
+mod CellPieces
+mod ItemSteps
+mod Entered

@@ -69,6 +69,28 @@ module _ (address_bits width : ℕ) where
       go (Some enable) None = refl
       go (Some enable) (Some address) = refl
 
+  -- each port has its pins among them
+  pub feed_of : (write : CellWrite) → Has (own_writes write) (wide_pin width write.feed)
+  unfolding own_writes
+  feed_of write = has_right (map bit_pin (level_pins write.enable) ++ map (wide_pin address_bits) (name_pins write.address)) (wide_pin width write.feed ∷ []) (wide_pin width write.feed) (record { place = 0; at = refl })
+
+  pub write_address_of : (write : CellWrite) (name : List ℕ) → write.address ≡ Some name → Has (own_writes write) (wide_pin address_bits name)
+  unfolding own_writes
+  write_address_of write name is =
+      has_left (map bit_pin (level_pins write.enable) ++ map (wide_pin address_bits) (name_pins write.address)) (wide_pin width write.feed ∷ []) (wide_pin address_bits name)
+      (has_right (map bit_pin (level_pins write.enable)) (map (wide_pin address_bits) (name_pins write.address)) (wide_pin address_bits name)
+      (record { place = 0; at = ap (λ (a : Option (List ℕ)). slice_get (map (wide_pin address_bits) (name_pins a)) 0) is }))
+
+  pub bits_of : (read : CellRead) → Has (own_reads read) (wide_pin width read.bits)
+  unfolding own_reads
+  bits_of read = has_right (map (wide_pin address_bits) (name_pins read.address)) (wide_pin width read.bits ∷ []) (wide_pin width read.bits) (record { place = 0; at = refl })
+
+  pub read_address_of : (read : CellRead) (name : List ℕ) → read.address ≡ Some name → Has (own_reads read) (wide_pin address_bits name)
+  unfolding own_reads
+  read_address_of read name is =
+      has_left (map (wide_pin address_bits) (name_pins read.address)) (wide_pin width read.bits ∷ []) (wide_pin address_bits name)
+      (record { place = 0; at = ap (λ (a : Option (List ℕ)). slice_get (map (wide_pin address_bits) (name_pins a)) 0) is })
+
   read_names : (read : CellRead) → map name_of (own_reads read) ≡ table.read_pins read
   unfolding name_of own_reads table.read_pins
   read_names read = go read.address
@@ -100,6 +122,23 @@ module _ (address_bits width : ℕ) where
     unfolding own_pins
     read_has k read pin at has =
         has_right (flat_map own_writes writes) (flat_map own_reads reads) pin (has_under own_reads reads pin (record { place = k; item = read; at = at; has = has }))
+
+    -- and so has the memory
+    pub write_named : (k : ℕ) (write : CellWrite) (pin : Pin) → slice_get writes k ≡ Some write → Has (own_writes write) pin → Has (named_pins (Memory address_bits width writes reads)) pin
+    unfolding own_writes
+    write_named k write pin at has =
+        has_left (flat_map (write_pins address_bits width) writes) (flat_map (read_pins address_bits width) reads) pin
+        (has_under (write_pins address_bits width) writes pin (record { place = k; item = write; at = at; has = record { place = suc has.place; at = has.at } }))
+
+    pub read_named : (k : ℕ) (read : CellRead) (pin : Pin) → slice_get reads k ≡ Some read → Has (own_reads read) pin → Has (named_pins (Memory address_bits width writes reads)) pin
+    unfolding own_reads
+    read_named k read pin at has =
+        has_right (flat_map (write_pins address_bits width) writes) (flat_map (read_pins address_bits width) reads) pin
+        (has_under (read_pins address_bits width) reads pin (record { place = k; item = read; at = at; has = go read.clock refl }))
+      where
+        go : (clock : Option EdgePin) → read.clock ≡ clock → Has (map bit_pin (edge_pins clock) ++ map (wide_pin address_bits) (name_pins read.address) ++ wide_pin width read.bits ∷ []) pin
+        go None e = record { place = has.place; at = has.at }
+        go (Some edge) e = record { place = suc has.place; at = has.at }
 
     write_sorted : (k : ℕ) (write : CellWrite) → slice_get writes k ≡ Some write → Every IsSorted (write_pins address_bits width write)
     unfolding own_writes
