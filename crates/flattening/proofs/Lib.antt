@@ -19,3 +19,6 @@ mod GoodMemories
 mod CellPieces
 mod ItemSteps
 mod Entered
+mod ModuleSteps
+mod PortBits
+mod OwnedMemories
