@@ -22,3 +22,5 @@ mod Entered
 mod ModuleSteps
 mod PortBits
 mod OwnedMemories
+mod WholeParts
+mod Flattened

@@ -141,7 +141,7 @@ module _ (enter : Option Enter) (well : EntersWell enter) (g : Given) (here : In
 
 -- ---- an instance
 
-named_there : (g : Given) (name : Name) (place : ℕ) (m : Module) → module_named g name ≡ Some (place, m) → slice_get g.modules place ≡ Some m
+pub named_there : (g : Given) (name : Name) (place : ℕ) (m : Module) → module_named g name ≡ Some (place, m) → slice_get g.modules place ≡ Some m
 named_there g name place m found =
     option_and_then_some (λ (k : ℕ). option_map (λ (x : Module). (k, x)) (slice_get g.modules k)) (place_among (module_names g) name) (place, m) found (λ k at is.
     (let one = mapped (λ (x : Module). (k, x)) (slice_get g.modules k) (place, m) is in
