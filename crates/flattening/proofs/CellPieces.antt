@@ -1,22 +1,19 @@
 -- The piece of a cell is good after what was made.
-use Rattle.std.proofs.Common.{◌≡◌, ◌+◌, ◌<◌, ◌≤◌, ◌∙◌, ℕ, suc, List, [], ◌∷◌, ◌++◌, Option, Some, None, Ok, ap, arith, length, length-append, map, refl, slice_get, subst, sym}
+use Rattle.std.proofs.Common.{◌≡◌, ◌+◌, ◌<◌, ◌≤◌, ℕ, List, [], ◌∷◌, ◌++◌, Some, None, Ok, arith, length, length-append, refl, slice_get, subst}
 use Rattle.std.specs.Prelude.{flat_map}
 use Rattle.std.proofs.lemmas.List.{length-map}
 use Rattle.verilog_tree.specs.declared.source.Inst.{Inst}
 use Rattle.cell_table.specs.declared.cell.Cell.{Cell}
 use Rattle.cell_table.specs.declared.cell.CellKind.{CellKind}
 use Rattle.cell_table.specs.declared.cell.CellKind.TheVariants as cell
-use Rattle.cell_table.specs.declared.cell.FeedPin.{FeedPin}
 use Rattle.cell_table.specs.Sound.{IsSoundKind, IsTableOver}
 use Rattle.cell_parts.specs.CellElements.{cell_elements, cell_memories, inner_count}
 use Rattle.cell_parts.specs.CellGates.{table_gate}
 use Rattle.cell_parts.specs.CellStates.{feed_gates}
 use Rattle.cell_parts.specs.Pins.{pins_of}
-use Rattle.cell_parts.specs.Wires.{TiedPin, Wires, inner_names, new_count, new_names, pin_at, wires_of}
+use Rattle.cell_parts.specs.Wires.{TiedPin, inner_names, new_count, new_names, pin_at, wires_of}
 use Rattle.design_core.specs.declared.element.Element.{Element}
-use Rattle.design_core.specs.declared.element.Element.TheVariants as element
 use Rattle.design_core.specs.declared.element.Memory.{Memory as DesignMemory}
-use Rattle.design_core.specs.declared.parts.NetName.{NetName}
 use Rattle.module_nets.specs.declared.nets.Net.{Net}
 use Rattle.module_nets.specs.Declarations.{width_of}
 use Rattle.flattening.specs.declared.made.Made.{Made}
@@ -25,9 +22,9 @@ use Rattle.flattening.specs.Links.{connection_tests}
 use Rattle.flattening.specs.Pieces.{performed}
 use Rattle.flattening.specs.Places.{Given, Inside}
 use Rattle.flattening.proofs.Everywhere.{Every, every_map, every_one}
-use Rattle.flattening.proofs.GoodCells.{AreWires, IsTiedBelow, clock_simple, comb_simple, flop_simple, latch_simple, names_long, names_stand, wires_below}
+use Rattle.flattening.proofs.GoodCells.{AreWires, clock_simple, comb_simple, flop_simple, latch_simple, names_long, names_stand, wires_below}
 use Rattle.flattening.proofs.GoodMemories.{all_every, memory_is_good}
-use Rattle.flattening.proofs.GoodPieces.{IsGoodElement, IsGoodMemory, IsGoodPiece, Takes}
+use Rattle.flattening.proofs.GoodPieces.{IsGoodElement, IsGoodMemory, Takes}
 use Rattle.flattening.proofs.GoodTies.{AreTied, ties_are, ties_below}
 use Rattle.flattening.proofs.Growing.{Grows, IsHere, IsMade, IsNext, IsSimple, deed_keeps, simple_good, takes_none}
 use Rattle.flattening.proofs.Passing.{Passes}

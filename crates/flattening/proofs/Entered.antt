@@ -1,5 +1,5 @@
 -- An instance that is entered has its scope and its nets.
-use Rattle.std.proofs.Common.{◌≡◌, ◌+◌, ◌<◌, ◌≤◌, ◌∙◌, ℕ, zero, suc, List, [], ◌∷◌, ◌++◌, Option, Some, None, Ok, ap, arith, length, length-append, map, refl, slice_get, subst, sym}
+use Rattle.std.proofs.Common.{◌≡◌, ◌+◌, ◌<◌, ◌≤◌, ◌∙◌, ℕ, zero, suc, List, [], ◌∷◌, Option, Some, None, Ok, ap, arith, length, length-append, refl, slice_get, subst, sym}
 use Rattle.std.specs.Prelude.{IfSome, flat_map}
 use Rattle.std.specs.List.{range_with_len, zip}
 use Rattle.std.proofs.lemmas.List.{length-map}
@@ -22,8 +22,8 @@ use Rattle.flattening.specs.Places.{Given, Inside, bit_names, index_at, indices,
 use Rattle.flattening.proofs.Everywhere.{Every, every_flat, every_map, every_one}
 use Rattle.flattening.proofs.GoodCells.{StandsIn}
 use Rattle.flattening.proofs.GoodPieces.{IsGoodPiece}
-use Rattle.flattening.proofs.Growing.{AreFit, Grows, IsHere, IsNext, joined_made}
-use Rattle.flattening.proofs.Passing.{IsPerformed, Passes, performed_ok}
+use Rattle.flattening.proofs.Growing.{AreFit, Grows, IsHere, joined_made}
+use Rattle.flattening.proofs.Passing.{Passes, performed_ok}
 
 -- ---- the bits of nets
 

@@ -1,6 +1,6 @@
 -- What holds of each thing of a list, as a fact of each by itself.
-use Rattle.std.proofs.Common.{◌≡◌, ℕ, zero, suc, Bool, true, List, [], ◌∷◌, ◌++◌, Some, refl, subst, map}
-use Rattle.std.specs.Prelude.{◌&&◌, flat_map, slice_get}
+use Rattle.std.proofs.Common.{◌≡◌, ℕ, zero, suc, Bool, true, false, cond, List, [], ◌∷◌, ◌++◌, Some, refl, subst, map}
+use Rattle.std.specs.Prelude.{◌&&◌, filter, flat_map, slice_get}
 use Rattle.std.specs.List.{list_all}
 use Rattle.std.proofs.lemmas.Option.{none-some, same_Some}
 
@@ -38,11 +38,18 @@ pub at_every : {X : Type 0} (P : X → Type 0) (xs : List X) → ((k : ℕ) (x :
 at_every P [] each = tt
 at_every P (x ∷ xs) each = (each 0 x refl, at_every P xs (λ k. each (suc k)))
 
--- two tests that pass
-pub both : (a b : Bool) → a ≡ true → b ≡ true → (a && b) ≡ true
-both a b e f = λ i. e i && f i
-
 -- a test that passes wherever the fact holds
 pub every_passes : {X : Type 0} (P : X → Type 0) (p : X → Bool) (xs : List X) → ((x : X) → P x → p x ≡ true) → Every P xs → list_all p xs ≡ true
 every_passes P p [] each all = refl
-every_passes P p (x ∷ xs) each all = both (p x) (list_all p xs) (each x all.0) (every_passes P p xs each all.1)
+every_passes P p (x ∷ xs) each all =
+    let first = each x all.0 in
+    let rest = every_passes P p xs each all.1 in
+    λ i. first i && rest i
+
+pub every_kept : {X : Type 0} (P : X → Type 0) (p : X → Bool) (xs : List X) → Every P xs → Every P (filter p xs)
+every_kept P p [] all = tt
+every_kept P p (x ∷ xs) all = go (p x) (every_kept P p xs all.1)
+  where
+    go : (b : Bool) → Every P (filter p xs) → Every P (cond b (x ∷ filter p xs) (filter p xs))
+    go true rest = (all.0, rest)
+    go false rest = rest

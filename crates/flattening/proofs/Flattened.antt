@@ -1,5 +1,5 @@
 -- The steps of a text make what is good, and so its flattened parts are whole.
-use Rattle.std.proofs.Common.{◌≡◌, ◌+◌, ◌<◌, ◌≤◌, ◌∙◌, ℕ, List, [], ◌∷◌, Option, Some, None, Ok, Err, ap, arith, length, map, refl, slice_get, subst, sym}
+use Rattle.std.proofs.Common.{◌≡◌, ◌+◌, ◌<◌, ◌≤◌, ℕ, [], ◌∷◌, Option, Some, None, Ok, Err, arith, length, map, refl, subst, sym}
 use Rattle.verilog_tree.specs.declared.source.Module.{Module}
 use Rattle.verilog_tree.specs.Terminal.{terminal_at}
 use Rattle.design_core.specs.declared.parts.Parts.{Parts}
@@ -10,15 +10,15 @@ use Rattle.flattening.specs.Faults.{module_tests}
 use Rattle.flattening.specs.Flattening.{as_parts, constants_alone, expanded, flattened, levels_below_top, module_named, parts_of, ports_with, top_inside, top_parts, top_steps}
 use Rattle.flattening.specs.Instances.{entering, is_input, is_output, most_modules}
 use Rattle.flattening.specs.Laws.{FlattenedPartsAreWhole, IsWhole}
-use Rattle.flattening.specs.Places.{Given, Inside, next_inside, own_names}
+use Rattle.flattening.specs.Places.{Given, own_names}
 use Rattle.flattening.specs.Stands.{given_by}
 use Rattle.flattening.specs.Steps.{Outcome, all_steps, tested}
-use Rattle.flattening.proofs.Entered.{HasEntered, bit_total, has_entered}
+use Rattle.flattening.proofs.Entered.{bit_total, has_entered}
 use Rattle.flattening.proofs.Everywhere.{Every, every_at}
 use Rattle.flattening.proofs.GoodPieces.{IsGoodPiece}
-use Rattle.flattening.proofs.Growing.{AreFit, Grows, IsHere, IsMade, here_more}
-use Rattle.flattening.proofs.ModuleSteps.{expanded_keeps, named_there}
-use Rattle.flattening.proofs.Passing.{Done, Passes, done, tested_ok}
+use Rattle.flattening.proofs.Growing.{here_more}
+use Rattle.flattening.proofs.ModuleSteps.{expanded_keeps, module_there}
+use Rattle.flattening.proofs.Passing.{done, tested_ok}
 use Rattle.flattening.proofs.PortBits.{ports_are}
 use Rattle.flattening.proofs.SoundCells.{IsGoodCell, cells_good}
 use Rattle.flattening.proofs.TwoTerminals.{AreTwofold, source_two}
@@ -80,7 +80,7 @@ module _ (g : Given) (cells : Every IsGoodCell g.cells) (modules : Every AreTwof
   found_whole : (top : Name) (found : Option (ℕ × Module)) (p : Parts) → module_named g top ≡ found → top_parts g top found ≡ Ok p → IsWhole p
   found_whole top None p is e = absurd (let clash : Err NoTop ≡ Ok p = e in cc)
   found_whole top (Some (place, m)) p is e =
-      outcome_whole top place m (top_steps g top (top_inside g place m) constants_alone) p (every_at AreTwofold g.modules place m modules (named_there g top place m is)) refl e
+      outcome_whole top place m (top_steps g top (top_inside g place m) constants_alone) p (every_at AreTwofold g.modules place m modules (module_there g top place m is)) refl e
 
   flattened_whole : (top : Name) (p : Parts) → flattened g top ≡ Ok p → IsWhole p
   unfolding flattened

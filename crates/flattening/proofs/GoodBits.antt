@@ -1,11 +1,11 @@
 -- The bits of names and expressions are nets that are there.
-use Rattle.std.proofs.Common.{◌≡◌, ◌+◌, ◌-◌, ◌<◌, ◌≤◌, ◌∙◌, ℕ, zero, suc, Bool, true, false, cond, ◌&&◌, List, [], ◌∷◌, ◌++◌, Option, Some, None, Result, Ok, Err, refl, arith, ap, inl, inr, length, map, slice_get, subst, sym}
-use Rattle.std.specs.Prelude.{◌⊎◌, ◌==◌, flat_map, if◌then◌else◌, nat_le, nat_lt, replicate}
+use Rattle.std.proofs.Common.{◌≡◌, ◌+◌, ◌-◌, ◌<◌, ◌≤◌, ℕ, zero, suc, Bool, true, false, cond, ◌&&◌, List, [], ◌∷◌, Option, Some, None, Ok, Err, refl, arith, inl, inr, length, map, slice_get, subst, sym}
+use Rattle.std.specs.Prelude.{◌⊎◌, ◌==◌, if◌then◌else◌, nat_le, nat_lt}
 use Rattle.std.specs.Int.{bit_at}
 use Rattle.std.specs.List.{range_with_len}
 use Rattle.std.proofs.lemmas.Bool.{leb-false, leb-true, ltb-false, ltb-true}
 use Rattle.std.proofs.lemmas.Nat.Bits.{bit_at-lt}
-use Rattle.std.proofs.lemmas.Option.{none-some, same_Some}
+use Rattle.std.proofs.lemmas.Option.{none-some}
 use Rattle.facts.proofs.Tests.{either, left, number_same, right}
 use Rattle.id_arena.specs.declared.keys.NetId.{NetId}
 use Rattle.id_arena.specs.Names.{place_among}
@@ -18,19 +18,17 @@ use Rattle.verilog_tree.specs.declared.source.Expr.TheOpen as layer
 use Rattle.verilog_tree.specs.declared.source.Expr.TheFolds.{fold-roll-Expr, ind-Expr}
 use Rattle.verilog_tree.specs.declared.source.IndexRange.{IndexRange}
 use Rattle.module_nets.specs.declared.fault.Cause.TheVariants.{NotDeclared, BadIndex, Width}
-use Rattle.module_nets.specs.declared.fault.NetFault.{NetFault}
 use Rattle.module_nets.specs.declared.fault.NetFault.TheVariants.{Refused}
 use Rattle.module_nets.specs.declared.nets.Net.{Net}
 use Rattle.module_nets.specs.Declarations.{most_bits, width_of}
 use Rattle.module_nets.specs.Names.{Name, start_of, text_of}
 use Rattle.module_nets.specs.Nets.{Nets}
-use Rattle.module_bits.specs.declared.sized.BitsFault.{BitsFault}
 use Rattle.module_bits.specs.declared.sized.BitsFault.TheVariants as bits_fault
 use Rattle.module_bits.specs.declared.target.Target.{Target}
 use Rattle.module_bits.specs.declared.target.Target.TheVariants.{NoNet, NoBits, Bits}
 use Rattle.module_bits.specs.Bits.{bits, bits_of_kind, bits_step, constant_bits, first_token, joined, misplaced, net_at, one_index, target_bits, times, two_indices, unknown, verdict}
 use Rattle.module_bits.specs.Names.{Context, bit_place, bits_in, has_index, is_select, net_named, selected, target_at}
-use Rattle.module_bits.specs.Sized.{asked_of, with_width}
+use Rattle.module_bits.specs.Sized.{asked_of}
 use Rattle.flattening.specs.declared.fault.ElabFault.TheVariants as fault
 use Rattle.flattening.specs.Faults.{bits_here, expression_test, fault_of, sized_test}
 use Rattle.flattening.specs.Places.{Given, Inside, context_of, named_bits, net_numbers}

@@ -1,17 +1,14 @@
 -- The pieces of cells are good.
-use Rattle.std.proofs.Common.{◌≡◌, ◌==◌, ◌+◌, ◌^◌, ◌<◌, ◌≤◌, ◌∙◌, ℕ, zero, suc, Bool, true, false, List, [], ◌∷◌, ◌++◌, Option, Some, None, ap, arith, get_or, length, length-append, map, option_map, refl, slice_get, subst, sym}
-use Rattle.std.specs.Prelude.{IfSome, nat_le, nat_lt, flat_map, if◌then◌else◌, option_and_then, option_to_list, unwrap_or}
+use Rattle.std.proofs.Common.{◌≡◌, ◌==◌, ◌+◌, ◌^◌, ◌<◌, ◌≤◌, ◌∙◌, ℕ, Bool, true, false, List, [], ◌∷◌, ◌++◌, Option, Some, None, arith, get_or, length, length-append, map, option_map, refl, slice_get, subst, sym}
+use Rattle.std.specs.Prelude.{IfSome, nat_lt, flat_map, if◌then◌else◌, option_and_then, unwrap_or}
 use Rattle.std.specs.List.{range_with_len}
-use Rattle.std.proofs.lemmas.Bool.{le-leb, lt-ltb}
+use Rattle.std.proofs.lemmas.Bool.{lt-ltb}
 use Rattle.std.proofs.lemmas.List.{length-map}
 use Rattle.std.proofs.lemmas.List.FromFn.{length-range_with_len}
 use Rattle.std.proofs.lemmas.List.Sums.{sum_by-cons}
-use Rattle.std.proofs.lemmas.Option.{none-some}
 use Rattle.facts.proofs.Tests.{number_same}
 use Rattle.id_arena.specs.declared.keys.NetId.{NetId}
 use Rattle.id_arena.specs.Names.{place_among}
-use Rattle.cell_table.specs.declared.cell.CellKind.{CellKind}
-use Rattle.cell_table.specs.declared.cell.CellKind.TheVariants as cell
 use Rattle.cell_table.specs.declared.cell.CombOut.{CombOut}
 use Rattle.cell_table.specs.declared.cell.EdgePin.{EdgePin}
 use Rattle.cell_table.specs.declared.cell.FeedPin.{FeedPin}
@@ -21,20 +18,15 @@ use Rattle.cell_table.specs.Sound.{IsSoundFeed, IsTableOver}
 use Rattle.cell_parts.specs.CellGates.{clock_elements, clock_inner, comb_elements, table_gate}
 use Rattle.cell_parts.specs.CellStates.{feed_gates, feed_inner, feed_net, flop_elements, inverse_gates, latch_elements, level_at}
 use Rattle.cell_parts.specs.Wires.{TiedPin, Wires, inner_names, net_numbered, nets_at, nets_from, nets_in_order, new_count, new_indices, new_names, new_width, pin_at, wires_of}
-use Rattle.design_core.specs.declared.element.Element.{Element}
 use Rattle.design_core.specs.declared.element.Element.TheVariants as element
-use Rattle.design_core.specs.declared.element.Level.{Level}
 use Rattle.design_core.specs.declared.operation.Op.TheVariants.{And, Not, Or, Table}
 use Rattle.design_core.specs.declared.parts.NetName.{NetName}
 use Rattle.design_core.specs.Design.{reset_nets}
 use Rattle.flattening.proofs.Everywhere.{Every, every_append, every_at, every_flat, every_map, every_one}
+use Rattle.flattening.proofs.GoodBits.{range_below}
 use Rattle.flattening.proofs.GoodPieces.{AreBelow}
 use Rattle.flattening.proofs.Growing.{IsSimple}
 use Rattle.flattening.proofs.GoodGates.{gate_simple}
-
-numbers_below : (n low count : ℕ) → low + count ≤ n → AreBelow n (map net_numbered (range_with_len low count))
-numbers_below n low zero few = tt
-numbers_below n low (suc count) few = (omega (arith, few), numbers_below n (low + 1) count (omega (arith, few)))
 
 -- ---- the wires of a cell
 
@@ -46,7 +38,7 @@ from_below : (n next : ℕ) (tied : TiedPin) → next + new_width tied ≤ n →
 from_below n next tied few is = go tied.tie refl is
   where
     go : (tie : Option (List NetId)) → tied.tie ≡ tie → IfSome tie (AreBelow n) → AreBelow n (elim tie [ Some nets ↦ nets | None ↦ map net_numbered (range_with_len next (new_width tied)) ])
-    go None e is = numbers_below n next (new_width tied) few
+    go None e is = range_below n next (new_width tied) few
     go (Some nets) e is = is
 
 count_cons : (tied : TiedPin) (rest : List TiedPin) → new_count (tied ∷ rest) ≡ new_width tied + new_count rest
@@ -120,48 +112,55 @@ module _ (n : ℕ) (w : Wires) (some : 0 < n) (wires : AreWires n w) where
 
   pub flop_simple : (inner : ℕ) (clock : EdgePin) (f : FeedPin) (clear preset : Option LevelPin) (q : List ℕ) (qn : Option (List ℕ)) → inner + feed_inner f ≤ n → IsSoundFeed f → Every (IsSimple n) (flop_elements w inner clock f clear preset q qn)
   flop_simple inner clock f clear preset q qn few sound =
-      every_append (IsSimple n) (feed_gates w inner f) _ (feed_simple inner f few sound)
-      (record {
-        good = record {
-          fits = refl;
-          few = refl;
-          reads = (pin_below clock.pin, (feed_below inner f few, resets_below clear preset));
-          drives = (pin_below q, tt);
-        };
-        apart = tt;
-      }, inverse_simple q qn)
+      every_append (IsSimple n) (feed_gates w inner f) _ (feed_simple inner f few sound) (
+        record {
+          good = record {
+            fits = refl;
+            few = refl;
+            reads = (pin_below clock.pin, (feed_below inner f few, resets_below clear preset));
+            drives = (pin_below q, tt);
+          };
+          apart = tt;
+        },
+        inverse_simple q qn,
+      )
 
   pub latch_simple : (inner : ℕ) (gate : LevelPin) (f : FeedPin) (clear preset : Option LevelPin) (q : List ℕ) (qn : Option (List ℕ)) → inner + feed_inner f ≤ n → IsSoundFeed f → Every (IsSimple n) (latch_elements w inner gate f clear preset q qn)
   latch_simple inner gate f clear preset q qn few sound =
-      every_append (IsSimple n) (feed_gates w inner f) _ (feed_simple inner f few sound)
-      (record {
-        good = record {
-          fits = refl;
-          few = refl;
-          reads = (pin_below gate.pin, (feed_below inner f few, resets_below clear preset));
-          drives = (pin_below q, tt);
-        };
-        apart = tt;
-      }, inverse_simple q qn)
+      every_append (IsSimple n) (feed_gates w inner f) _ (feed_simple inner f few sound) (
+        record {
+          good = record {
+            fits = refl;
+            few = refl;
+            reads = (pin_below gate.pin, (feed_below inner f few, resets_below clear preset));
+            drives = (pin_below q, tt);
+          };
+          apart = tt;
+        },
+        inverse_simple q qn,
+      )
 
   -- a latch that is open while the clock is 0, and an `and` with the clock
   gated_simple : (clock output : List ℕ) (value q : NetId) → value.place < n → q.place < n → Every (IsSimple n) (element.Latch (record { gate = record { net = pin_at w clock; high = false }; feed = value; clear = None; preset = None; q = q }) ∷ element.Gate And (q ∷ pin_at w clock ∷ []) (pin_at w output) ∷ [])
-  gated_simple clock output value q from to =
-      (record {
-        good = record {
-          fits = refl;
-          few = refl;
-          reads = (pin_below clock, (from, tt));
-          drives = (to, tt);
-        };
-        apart = tt;
-      }, (gate_simple n And (q ∷ pin_at w clock ∷ []) (pin_at w output) refl (omega arith) (to, (pin_below clock, tt)) (pin_below output), tt))
+  gated_simple clock output value q from to = (
+    record {
+      good = record {
+        fits = refl;
+        few = refl;
+        reads = (pin_below clock, (from, tt));
+        drives = (to, tt);
+      };
+      apart = tt;
+    },
+    (gate_simple n And (q ∷ pin_at w clock ∷ []) (pin_at w output) refl (omega arith) (to, (pin_below clock, tt)) (pin_below output), tt),
+  )
 
   pub clock_simple : (inner : ℕ) (clock enable : List ℕ) (test : Option (List ℕ)) (output : List ℕ) → inner + clock_inner test ≤ n → Every (IsSimple n) (clock_elements w inner clock enable test output)
   clock_simple inner clock enable None output few = gated_simple clock output (pin_at w enable) (net_numbered inner) (pin_below enable) (omega (arith, few))
-  clock_simple inner clock enable (Some test) output few =
-      (gate_simple n Or (pin_at w enable ∷ pin_at w test ∷ []) (net_numbered inner) refl (omega arith) (pin_below enable, (pin_below test, tt)) (omega (arith, few)),
-      gated_simple clock output (net_numbered inner) (net_numbered (inner + 1)) (omega (arith, few)) (omega (arith, few)))
+  clock_simple inner clock enable (Some test) output few = (
+    gate_simple n Or (pin_at w enable ∷ pin_at w test ∷ []) (net_numbered inner) refl (omega arith) (pin_below enable, (pin_below test, tt)) (omega (arith, few)),
+    gated_simple clock output (net_numbered inner) (net_numbered (inner + 1)) (omega (arith, few)) (omega (arith, few)),
+  )
 
 -- ---- names of new nets
 

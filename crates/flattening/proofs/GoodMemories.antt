@@ -1,13 +1,13 @@
 -- The memory of a cell has the shape that its dimensions say, and its nets are there.
-use Rattle.std.proofs.Common.{◌≡◌, ◌==◌, ◌+◌, ◌<◌, ◌≤◌, ◌∙◌, ℕ, zero, suc, Bool, true, false, cond, List, [], ◌∷◌, ◌++◌, Option, Some, None, ap, arith, inl, inr, length, map, option_map, refl, slice_get, subst, sym}
-use Rattle.std.specs.Prelude.{◌&&◌, IfSome, bytes_eq, filter, is_none, nat_le, nat_lt, not, option_and_then, option_to_list, unwrap_or}
-use Rattle.std.specs.List.{All, list_all, list_any, range_with_len}
+use Rattle.std.proofs.Common.{◌≡◌, ◌==◌, ◌+◌, ◌<◌, ◌≤◌, ◌∙◌, ℕ, zero, suc, Bool, true, false, cond, List, [], ◌∷◌, Option, Some, None, ap, arith, length, map, option_map, refl, slice_get, subst, sym}
+use Rattle.std.specs.Prelude.{◌&&◌, IfSome, bytes_eq, filter, not, option_and_then, unwrap_or}
+use Rattle.std.specs.List.{All, list_any, range_with_len}
 use Rattle.std.proofs.lemmas.Bool.{le-leb, lt-ltb}
 use Rattle.std.proofs.lemmas.List.{length-map}
 use Rattle.std.proofs.lemmas.List.FromFn.{length-range_with_len}
 use Rattle.std.proofs.lemmas.Option.{get_or_from_slice_get, none-some, same_Some, slice_get_within, slice_get-map}
 use Rattle.std.proofs.lemmas.Slice.Eq.{bytes_eq-Decides}
-use Rattle.facts.proofs.Lists.{Has, any_at, has_left, has_right}
+use Rattle.facts.proofs.Lists.{Has}
 use Rattle.facts.proofs.Places.{at_map}
 use Rattle.facts.proofs.Tests.{no, number_same, same_number}
 use Rattle.id_arena.specs.declared.keys.NetId.{NetId}
@@ -18,18 +18,16 @@ use Rattle.cell_table.specs.declared.cell.CellRead.{CellRead}
 use Rattle.cell_table.specs.declared.cell.CellWrite.{CellWrite}
 use Rattle.cell_table.specs.declared.cell.EdgePin.{EdgePin}
 use Rattle.cell_table.specs.declared.cell.LevelPin.{LevelPin}
-use Rattle.cell_table.specs.Pins.{clock_pins, level_pins, name_pins}
+use Rattle.cell_table.specs.Pins.{clock_pins}
 use Rattle.cell_table.specs.Sound.{HasAddress, IsSoundMemory}
 use Rattle.cell_parts.specs.declared.pins.Pin.{Pin}
 use Rattle.cell_parts.specs.CellStates.{address_at, edge_at, enable_at, memory_at, read_port, write_port}
-use Rattle.cell_parts.specs.Pins.{bit_pin, named_pins, once, pins_of, wide_pin}
-use Rattle.cell_parts.specs.Wires.{TiedPin, Wires, net_numbered, nets_at, nets_from, nets_in_order, new_width, pin_at, wires_of}
-use Rattle.design_core.specs.declared.element.Edge.{Edge}
-use Rattle.design_core.specs.declared.element.Level.{Level}
+use Rattle.cell_parts.specs.Pins.{named_pins, once, pins_of, wide_pin}
+use Rattle.cell_parts.specs.Wires.{TiedPin, Wires, net_numbered, nets_at, nets_from, nets_in_order, new_width, wires_of}
 use Rattle.design_core.specs.declared.element.ReadPort.{ReadPort}
 use Rattle.design_core.specs.declared.element.WritePort.{WritePort}
 use Rattle.design_core.specs.Design.{clock_nets, memory_fits}
-use Rattle.flattening.proofs.Everywhere.{Every, at_every, both, every_append, every_at, every_map, every_one, every_passes}
+use Rattle.flattening.proofs.Everywhere.{Every, at_every, every_append, every_at, every_map, every_one, every_passes}
 use Rattle.flattening.proofs.GoodCells.{AreWires, at_below, pin_below}
 use Rattle.flattening.proofs.GoodPieces.{AreBelow, IsGoodMemory, IsReadBelow, IsWriteBelow}
 use Rattle.flattening.proofs.GoodTies.{AreTied, IsTiedWide, IsWide}
@@ -131,15 +129,19 @@ module _ (n : ℕ) (w : Wires) (two : 2 ≤ n) (wires : AreWires n w) where
   clock_below (Some edge) = (pin_below n w some_nets wires edge.pin, tt)
 
   write_below : (write : CellWrite) → IsWriteBelow n (write_port w write)
-  write_below write =
-      (pin_below n w some_nets wires write.clock.pin,
-      (enable_below write.enable,
-      every_append (λ (m : NetId). m.place < n) (address_at w write.address) (nets_at w write.feed) (address_below write.address) (at_below n w some_nets wires write.feed)))
+  write_below write = (
+    pin_below n w some_nets wires write.clock.pin,
+    (
+      enable_below write.enable,
+      every_append (λ (m : NetId). m.place < n) (address_at w write.address) (nets_at w write.feed) (address_below write.address) (at_below n w some_nets wires write.feed),
+    ),
+  )
 
   read_below : (read : CellRead) → IsReadBelow n (read_port w read)
-  read_below read =
-      (every_append (λ (m : NetId). m.place < n) (clock_nets (option_map (edge_at w) read.clock)) (address_at w read.address) (clock_below read.clock) (address_below read.address),
-      at_below n w some_nets wires read.bits)
+  read_below read = (
+    every_append (λ (m : NetId). m.place < n) (clock_nets (option_map (edge_at w) read.clock)) (address_at w read.address) (clock_below read.clock) (address_below read.address),
+    at_below n w some_nets wires read.bits,
+  )
 
 -- a write port and a read port of these dimensions
 abbrev IsWriteLong : ℕ → ℕ → WritePort → Type 0
@@ -157,9 +159,9 @@ module _ (address_bits width : ℕ) (writes : List CellWrite) (reads : List Cell
       let bits : Every (HasBits pin.name pin.width) tied = at_every (HasBits pin.name pin.width) tied (λ k t at called m.
       (let w = every_at (IsWide pin.name pin.width) (pins_of (Memory address_bits width writes reads)) k t.pin wide (are.back k t at) called in
       from_long m pin.width t t.tie refl w.0 w.1 (every_at (IsTiedWide pin.name pin.width) tied k t ties at called))) in
-      let stays = once_has (named_pins (Memory address_bits width writes reads)) named.place pin named.at in
-      let t = are.there stays.has.place stays.pin stays.has.at in
-      at_long next pin.width pin.name tied bits stays.has.place t.0 t.1 (ap (λ (p : Pin). p.name) t.2 ∙ stays.called)
+      let kept = once_has (named_pins (Memory address_bits width writes reads)) named.place pin named.at in
+      let t = are.there kept.has.place kept.pin kept.has.at in
+      at_long next pin.width pin.name tied bits kept.has.place t.0 t.1 (ap (λ (p : Pin). p.name) t.2 ∙ kept.called)
 
   write_feed : (k : ℕ) (write : CellWrite) → slice_get writes k ≡ Some write → length (nets_at (wires_of next tied) write.feed) ≡ width
   write_feed k write at =
@@ -183,14 +185,16 @@ module _ (address_bits width : ℕ) (writes : List CellWrite) (reads : List Cell
 
   module _ (sound : IsSoundMemory address_bits width writes reads) where
     writes_long : Every (λ write. IsWriteLong address_bits width (write_port (wires_of next tied) write)) writes
-    writes_long = at_every _ writes (λ k write at.
-        (address_long (wires_of next tied) address_bits write.address (every_at (λ (x : CellWrite). HasAddress address_bits x.address) writes k write (all_every (λ (x : CellWrite). HasAddress address_bits x.address) writes sound.written_at) at) (λ name is. write_address k write name at is),
-        write_feed k write at))
+    writes_long = at_every _ writes (λ k write at. (
+      address_long (wires_of next tied) address_bits write.address (every_at (λ (x : CellWrite). HasAddress address_bits x.address) writes k write (all_every (λ (x : CellWrite). HasAddress address_bits x.address) writes sound.written_at) at) (λ name is. write_address k write name at is),
+      write_feed k write at,
+    ))
 
     reads_long : Every (λ read. IsReadLong address_bits width (read_port (wires_of next tied) read)) reads
-    reads_long = at_every _ reads (λ k read at.
-        (address_long (wires_of next tied) address_bits read.address (every_at (λ (x : CellRead). HasAddress address_bits x.address) reads k read (all_every (λ (x : CellRead). HasAddress address_bits x.address) reads sound.read_at) at) (λ name is. read_address k read name at is),
-        read_bits k read at))
+    reads_long = at_every _ reads (λ k read at. (
+      address_long (wires_of next tied) address_bits read.address (every_at (λ (x : CellRead). HasAddress address_bits x.address) reads k read (all_every (λ (x : CellRead). HasAddress address_bits x.address) reads sound.read_at) at) (λ name is. read_address k read name at is),
+      read_bits k read at,
+    ))
 
     shape : memory_fits (memory_at (wires_of next tied) address_bits width writes reads) ≡ true
     shape =
@@ -199,8 +203,8 @@ module _ (address_bits width : ℕ) (writes : List CellWrite) (reads : List Cell
         let b = lt-ltb 0 width (let some = sound.some_width in omega (arith, some)) in
         let c = le-leb width 128 sound.small_width in
         let d = le-leb (length (map (write_port w) writes) + length (map (read_port w) reads)) 16 (let x = length-map writes (write_port w) in let y = length-map reads (read_port w) in let few = sound.few_ports in omega (arith, x, y, few)) in
-        let e = every_passes (IsWriteLong address_bits width) (λ (port : WritePort). (length port.address == address_bits) && (length port.feed == width)) (map (write_port w) writes) (λ port long. both _ _ (same_number _ _ long.0) (same_number _ _ long.1)) (every_map (IsWriteLong address_bits width) (write_port w) writes writes_long) in
-        let f = every_passes (IsReadLong address_bits width) (λ (port : ReadPort). (length port.address == address_bits) && (length port.bits == width)) (map (read_port w) reads) (λ port long. both _ _ (same_number _ _ long.0) (same_number _ _ long.1)) (every_map (IsReadLong address_bits width) (read_port w) reads reads_long) in
+        let e = every_passes (IsWriteLong address_bits width) (λ (port : WritePort). (length port.address == address_bits) && (length port.feed == width)) (map (write_port w) writes) (λ port long. (let a-2 = same_number _ _ long.0 in let b-2 = same_number _ _ long.1 in λ i. a-2 i && b-2 i)) (every_map (IsWriteLong address_bits width) (write_port w) writes writes_long) in
+        let f = every_passes (IsReadLong address_bits width) (λ (port : ReadPort). (length port.address == address_bits) && (length port.bits == width)) (map (read_port w) reads) (λ port long. (let a-2 = same_number _ _ long.0 in let b-2 = same_number _ _ long.1 in λ i. a-2 i && b-2 i)) (every_map (IsReadLong address_bits width) (read_port w) reads reads_long) in
         λ i. a i && b i && c i && d i && e i && f i
 
     pub memory_is_good : (n : ℕ) → 2 ≤ n → AreWires n (wires_of next tied) → IsGoodMemory n (memory_at (wires_of next tied) address_bits width writes reads)

@@ -1,7 +1,7 @@
 -- What holds of all that is made: each net and scope that it names is there, elements and memories have their shapes, and
 -- each memory is the element that comes with it. Everything is said beside the nets and scopes that there are, so that it
--- stays where more of them come.
-use Rattle.std.proofs.Common.{◌≡◌, ◌+◌, ◌<◌, ◌≤◌, ◌∙◌, ℕ, Bool, true, Option, Some, None, List, [], ◌∷◌, ◌++◌, append_assoc, ap, arith, length, length-append, refl, subst, sym}
+-- stays_good where more of them come.
+use Rattle.std.proofs.Common.{◌≡◌, ◌+◌, ◌<◌, ◌≤◌, ℕ, Bool, true, List, [], ◌∷◌, ◌++◌, arith, length, length-append, subst, sym}
 use Rattle.std.specs.Prelude.{IfSome}
 use Rattle.id_arena.specs.declared.keys.NetId.{NetId}
 use Rattle.design_core.specs.declared.element.Element.{Element}

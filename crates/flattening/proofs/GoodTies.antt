@@ -1,14 +1,15 @@
 -- What is connected to the pins of a cell is there, and where the tests of connections pass it is as wide as the pin.
-use Rattle.std.proofs.Common.{◌≡◌, ◌+◌, ◌<◌, ◌≤◌, ◌∙◌, ℕ, zero, suc, Bool, true, false, cond, List, [], ◌∷◌, ◌++◌, Option, Some, None, ap, arith, length, map, option_map, refl, slice_get, subst, sym}
-use Rattle.std.specs.Prelude.{IfSome, bytes_eq, find, option_and_then}
+use Rattle.std.proofs.Common.{◌≡◌, ◌≤◌, ◌∙◌, ℕ, zero, suc, Bool, true, false, cond, List, [], ◌∷◌, Option, Some, None, ap, arith, length, option_map, refl, slice_get, subst, sym}
+use Rattle.std.specs.Prelude.{IfSome, bytes_eq, option_and_then}
 use Rattle.std.specs.List.{enumerate_from, zip}
 use Rattle.std.proofs.lemmas.List.{length-map}
+use Rattle.std.proofs.lemmas.List.FromFn.{length-enumerate_from}
 use Rattle.std.proofs.lemmas.Option.{none-some, option_and_then_some, same_Some, slice_get-map}
 use Rattle.std.proofs.lemmas.Slice.Eq.{bytes_eq-Decides}
 use Rattle.facts.proofs.Counting.{find_at}
-use Rattle.facts.proofs.Lists.{Numbered, numbered}
+use Rattle.facts.proofs.Lists.{numbered}
 use Rattle.facts.proofs.Places.{at_map, at_zip, zip_at}
-use Rattle.facts.proofs.Tests.{mapped, no}
+use Rattle.facts.proofs.Tests.{no}
 use Rattle.id_arena.specs.declared.keys.NetId.{NetId}
 use Rattle.verilog_tree.specs.declared.source.Expr.{Expr}
 use Rattle.verilog_tree.specs.declared.source.Inst.{Inst}
@@ -142,12 +143,8 @@ ties_wide g here inst name width pins tests wide =
 
 -- ---- pins and ties stand place by place
 
-numbered_long : {X : Type 0} (k : ℕ) (xs : List X) → length (enumerate_from k xs) ≡ length xs
-numbered_long k [] = refl
-numbered_long k (x ∷ xs) = ap suc (numbered_long (k + 1) xs)
-
 ties_long : (g : Given) (here : Inside) (links : Links) (pins : List Pin) → length (ties g here links (pin_sockets pins)) ≡ length pins
-ties_long g here links pins = length-map (enumerate_from 0 (pin_sockets pins)) _ ∙ numbered_long 0 (pin_sockets pins) ∙ length-map pins _
+ties_long g here links pins = length-map (enumerate_from 0 (pin_sockets pins)) _ ∙ length-enumerate_from 0 (pin_sockets pins) ∙ length-map pins _
 
 tied_there : (pins : List Pin) (tied : List (Option (List NetId))) (k : ℕ) (pin : Pin) → length tied ≡ length pins → slice_get pins k ≡ Some pin → (t : TiedPin) × (slice_get (tied_by pins tied) k ≡ Some t) × (t.pin ≡ pin)
 tied_there [] tied k pin long at = absurd (none-some pin at)

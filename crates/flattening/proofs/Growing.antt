@@ -1,10 +1,9 @@
 -- What stands of all that is made after each step, and what an instance has of it.
-use Rattle.std.proofs.Common.{◌≡◌, ◌<◌, ◌≤◌, ◌+◌, ◌∙◌, ℕ, List, [], ◌∷◌, ◌++◌, Some, None, Ok, arith, length, length-append, map, refl, slice_get, subst, sym, ap}
+use Rattle.std.proofs.Common.{◌≡◌, ◌<◌, ◌≤◌, ◌+◌, ℕ, List, [], ◌∷◌, ◌++◌, Some, Ok, arith, length, length-append, refl, slice_get, subst}
 use Rattle.std.proofs.lemmas.List.{length-map}
 use Rattle.std.proofs.lemmas.List.Sums.{sum_by-append}
 use Rattle.design_core.specs.declared.element.Element.{Element}
 use Rattle.design_core.specs.declared.element.Element.TheVariants as element
-use Rattle.design_core.specs.declared.element.Memory.{Memory}
 use Rattle.design_core.specs.Most.{most_elements, most_nets, most_words}
 use Rattle.module_nets.specs.declared.nets.Net.{Net}
 use Rattle.module_nets.specs.Declarations.{width_of}
@@ -12,10 +11,10 @@ use Rattle.flattening.specs.declared.made.Made.{Made}
 use Rattle.flattening.specs.Instances.{most_modules}
 use Rattle.flattening.specs.Pieces.{Deed, elements_in, joined, performed, words_in}
 use Rattle.flattening.specs.Places.{Inside}
-use Rattle.flattening.specs.Steps.{Step, followed, in_turn}
+use Rattle.flattening.specs.Steps.{Step, in_turn}
 use Rattle.flattening.proofs.Everywhere.{Every, every_map, every_one}
 use Rattle.flattening.proofs.GoodPieces.{IsGoodElement, IsGoodPiece, Takes, joined_good, piece_more}
-use Rattle.flattening.proofs.Passing.{Done, IsPerformed, Passes, done, performed_ok}
+use Rattle.flattening.proofs.Passing.{IsPerformed, Passes, done, performed_ok}
 
 -- all that is made is good, within the limits, and its scopes are few
 pub record IsMade (made : Made) : Type 0 where
@@ -59,11 +58,11 @@ here_more here made new grows is = record {
 abbrev pub Keeps : Inside → Step → Type 0
 Keeps here step = (made new : Made) → IsMade made → IsHere here made → step made ≡ Ok new → Grows made new
 
-pub stays : (made new : Made) → IsMade made → made ≡ new → Grows made new
-stays made new is same = subst (λ m. Grows made m) same (record { all = is; nets = omega arith; scopes = omega arith })
+pub stays_good : (made new : Made) → IsMade made → made ≡ new → Grows made new
+stays_good made new is same = subst (λ m. Grows made m) same (record { all = is; nets = omega arith; scopes = omega arith })
 
 pub turns_keep : {X : Type 0} (here : Inside) (step : X → Step) (xs : List X) → Every (λ x. Keeps here (step x)) xs → Keeps here (in_turn step xs)
-turns_keep here step [] each made new is at e = stays made new is (let same : made ≡ new = cc in same)
+turns_keep here step [] each made new is at e = stays_good made new is (let same : made ≡ new = cc in same)
 turns_keep here step (x ∷ xs) each made new is at e =
     let two = done (step x) (in_turn step xs) made new e in
     let one = each.0 made two.mid is at two.before in

@@ -1,14 +1,11 @@
 -- The items of an instance make what is good.
-use Rattle.std.proofs.Common.{◌≡◌, ◌+◌, ◌-◌, ◌<◌, ◌≤◌, ◌∙◌, ℕ, suc, Bool, true, false, List, [], ◌∷◌, ◌++◌, Option, Some, None, Ok, Err, ap, arith, length, length-append, map, refl, slice_get, subst, sym}
-use Rattle.std.specs.Prelude.{flat_map, if◌then◌else◌, option_and_then, option_map}
-use Rattle.std.proofs.lemmas.Option.{none-some, option_and_then_some}
+use Rattle.std.proofs.Common.{◌≡◌, ◌+◌, ◌<◌, ◌≤◌, ℕ, Bool, true, false, List, [], ◌∷◌, Option, Some, None, arith, length, length-append, map, refl, subst, sym}
+use Rattle.std.specs.Prelude.{flat_map}
 use Rattle.id_arena.specs.declared.keys.NetId.{NetId}
-use Rattle.id_arena.specs.Names.{place_among}
 use Rattle.verilog_tree.specs.declared.source.AssignPair.{AssignPair}
 use Rattle.verilog_tree.specs.declared.source.Expr.{Expr}
 use Rattle.verilog_tree.specs.declared.source.GatePart.{GatePart}
 use Rattle.verilog_tree.specs.declared.source.NetPart.{NetPart}
-use Rattle.design_core.specs.declared.element.Element.{Element}
 use Rattle.design_core.specs.declared.element.Element.TheVariants as element
 use Rattle.design_core.specs.declared.fault.LimitKind.TheVariants.{Inputs}
 use Rattle.design_core.specs.declared.operation.Op.{Op}
@@ -17,14 +14,14 @@ use Rattle.design_core.specs.Most.{most_gate_inputs}
 use Rattle.flattening.specs.declared.made.Made.{Made}
 use Rattle.flattening.specs.Faults.{bits_here, expression_test}
 use Rattle.flattening.specs.Items.{constant_net, net_bits, net_deed, pair_deed, supply_deed, value_deed}
-use Rattle.flattening.specs.Pieces.{beyond, buffers, elements_in, nothing, performed}
-use Rattle.flattening.specs.Places.{Given, Inside, context_of, name_in, named_bits}
+use Rattle.flattening.specs.Pieces.{beyond, elements_in, nothing, performed}
+use Rattle.flattening.specs.Places.{Given, Inside, context_of, name_in}
 use Rattle.flattening.specs.Primitives.{gates_of, inputs_of, path_of, primitive_deed, primitive_piece, primitive_tests, scopes_of}
 use Rattle.flattening.proofs.Everywhere.{Every, every_flat, every_one}
 use Rattle.flattening.proofs.GoodBits.{bits_below, named_below, sized}
 use Rattle.flattening.proofs.GoodGates.{IsWord, buffer_simple, buffers_simple, gates_simple, gates_some}
-use Rattle.flattening.proofs.GoodPieces.{AreBelow, IsGoodPiece, StandIn}
-use Rattle.flattening.proofs.Growing.{Grows, IsHere, IsMade, IsNext, IsSimple, Keeps, deed_keeps, elements_good, elements_next}
+use Rattle.flattening.proofs.GoodPieces.{AreBelow}
+use Rattle.flattening.proofs.Growing.{IsHere, IsMade, IsNext, IsSimple, Keeps, deed_keeps, elements_good, elements_next}
 use Rattle.flattening.proofs.Passing.{Passes, every_parts, of_map, within_most}
 use Rattle.flattening.proofs.TwoTerminals.{HasTwo}
 

@@ -20,7 +20,7 @@ mod CellPieces
 mod ItemSteps
 mod Entered
 mod ModuleSteps
-mod PortBits
 mod OwnedMemories
+mod PortBits
 mod WholeParts
 mod Flattened

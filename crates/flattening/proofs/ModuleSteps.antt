@@ -1,9 +1,9 @@
 -- Instances, and all items down to any depth, make what is good.
 use Prim.Native.Nat.{zero, suc}
-use Rattle.std.proofs.Common.{◌≡◌, ◌+◌, ◌<◌, ◌≤◌, ◌∙◌, ℕ, Bool, true, false, cond, List, [], ◌∷◌, ◌++◌, Option, Some, None, Ok, Err, ap, arith, length, map, option_map, refl, slice_get, subst, sym}
-use Rattle.std.specs.Prelude.{IfSome, flat_map, option_and_then}
+use Rattle.std.proofs.Common.{◌≡◌, ◌+◌, ◌≤◌, ◌∙◌, ℕ, Bool, true, false, cond, List, [], ◌∷◌, Option, Some, None, Ok, Err, ap, arith, length, option_map, refl, slice_get, subst, sym}
+use Rattle.std.specs.Prelude.{IfSome}
 use Rattle.std.specs.List.{enumerate_from, zip}
-use Rattle.std.proofs.lemmas.Option.{none-some, option_and_then_some, same_Some}
+use Rattle.std.proofs.lemmas.Option.{option_and_then_some}
 use Rattle.facts.proofs.Tests.{mapped}
 use Rattle.id_arena.specs.declared.keys.NetId.{NetId}
 use Rattle.id_arena.specs.Names.{place_among}
@@ -28,16 +28,16 @@ use Rattle.flattening.specs.Links.{Socket, connected, port_sockets, ties}
 use Rattle.flattening.specs.Pieces.{buffers, performed}
 use Rattle.flattening.specs.Places.{Given, Inside, context_of, module_names, name_in, named_bits, next_inside, own_names, start_in}
 use Rattle.flattening.specs.Primitives.{op_at}
-use Rattle.flattening.specs.Steps.{Step, all_steps, tested}
+use Rattle.flattening.specs.Steps.{all_steps, tested}
 use Rattle.flattening.proofs.CellPieces.{cell_keeps}
-use Rattle.flattening.proofs.Entered.{HasEntered, has_entered}
+use Rattle.flattening.proofs.Entered.{has_entered}
 use Rattle.flattening.proofs.Everywhere.{Every, every_at, every_flat, every_map, every_more, every_one}
 use Rattle.flattening.proofs.GoodBits.{bits_below, named_below}
 use Rattle.flattening.proofs.GoodGates.{buffers_simple, token_word}
-use Rattle.flattening.proofs.GoodPieces.{AreBelow, IsGoodPiece, piece_more}
-use Rattle.flattening.proofs.Growing.{AreFit, Grows, IsHere, IsMade, IsSimple, Keeps, deed_keeps, elements_next, grows_more, here_more, stays, turns_keep}
+use Rattle.flattening.proofs.GoodPieces.{AreBelow, piece_more}
+use Rattle.flattening.proofs.Growing.{AreFit, Grows, IsHere, IsMade, IsSimple, Keeps, deed_keeps, elements_next, grows_more, here_more, stays_good, turns_keep}
 use Rattle.flattening.proofs.ItemSteps.{net_keeps, pair_keeps, prim_keeps, supply_keeps}
-use Rattle.flattening.proofs.Passing.{Done, Passes, done, tested_ok, within_most}
+use Rattle.flattening.proofs.Passing.{done, tested_ok, within_most}
 use Rattle.flattening.proofs.SoundCells.{IsGoodCell}
 use Rattle.flattening.proofs.TwoTerminals.{AreTwofold, HasTwo, HaveTwo}
 
@@ -97,7 +97,7 @@ EntersWell None = Unit {0}
 EntersWell (Some enter) = (child : Inside) → AreTwofold child.module_of → Keeps child (enter child)
 
 items_keep : (enter : Option Enter) (child : Inside) → EntersWell enter → AreTwofold child.module_of → Keeps child (items_of enter child)
-items_keep None child well two made new is at e = stays made new is (let same : made ≡ new = cc in same)
+items_keep None child well two made new is at e = stays_good made new is (let same : made ≡ new = cc in same)
 items_keep (Some enter) child well two made new is at e = well child two made new is at e
 
 module _ (enter : Option Enter) (well : EntersWell enter) (g : Given) (here : Inside) (at : ℕ) (inst : Inst) (place : ℕ) (m : Module) (two : AreTwofold m) (made : Made) (is : IsMade made) (outer : IsHere here made) where
@@ -123,7 +123,7 @@ module _ (enter : Option Enter) (well : EntersWell enter) (g : Given) (here : In
       let inner-3 = here_more child two_more.mid three.mid items inner-2 in
       let four = done (performed at (port_deed fed g here inst child)) (all_steps []) three.mid new three.after in
       let fed_out = ports_keep fed fed_simple g here at inst child three.mid four.mid items.all outer-3 inner-3 four.before in
-      let last = stays four.mid new fed_out.all (let same : four.mid ≡ new = (let e-5 : Ok four.mid ≡ Ok new = four.after in cc) in same) in
+      let last = stays_good four.mid new fed_out.all (let same : four.mid ≡ new = (let e-5 : Ok four.mid ≡ Ok new = four.after in cc) in same) in
       grows_more made one.mid new entered.grows
       (grows_more one.mid two_more.mid new fed_in
       (grows_more two_more.mid three.mid new items
@@ -141,8 +141,8 @@ module _ (enter : Option Enter) (well : EntersWell enter) (g : Given) (here : In
 
 -- ---- an instance
 
-pub named_there : (g : Given) (name : Name) (place : ℕ) (m : Module) → module_named g name ≡ Some (place, m) → slice_get g.modules place ≡ Some m
-named_there g name place m found =
+pub module_there : (g : Given) (name : Name) (place : ℕ) (m : Module) → module_named g name ≡ Some (place, m) → slice_get g.modules place ≡ Some m
+module_there g name place m found =
     option_and_then_some (λ (k : ℕ). option_map (λ (x : Module). (k, x)) (slice_get g.modules k)) (place_among (module_names g) name) (place, m) found (λ k at is.
     (let one = mapped (λ (x : Module). (k, x)) (slice_get g.modules k) (place, m) is in
     let number : k ≡ place = ap (λ (e : ℕ × Module). e.0) one.2 in
@@ -159,7 +159,7 @@ module _ (g : Given) (cells : Every IsGoodCell g.cells) (modules : Every AreTwof
 
   either_keeps : (enter : Option Enter) → EntersWell enter → (here : Inside) (at : ℕ) (inst : Inst) (name : Name) (found : Option (ℕ × Module)) → module_named g name ≡ found → Keeps here (module_or_cell_step enter g here at inst name found)
   either_keeps enter well here at inst name (Some (place, m)) found made new is there e =
-      module_keeps enter well g here at inst place m (every_at AreTwofold g.modules place m modules (named_there g name place m found)) made is there new e
+      module_keeps enter well g here at inst place m (every_at AreTwofold g.modules place m modules (module_there g name place m found)) made is there new e
   either_keeps enter well here at inst name None found made new is there e =
       cell_step_keeps here at inst (cell_named g name) (λ c named. (let place = cell_there g name c named in every_at IsGoodCell g.cells place.0 c cells place.1)) made new is there e
 
@@ -171,7 +171,7 @@ module _ (g : Given) (cells : Every IsGoodCell g.cells) (modules : Every AreTwof
   -- ---- items
 
   item_keeps : (enter : Option Enter) → EntersWell enter → (here : Inside) (i : Item) → HaveTwo i → Keeps here (item_step enter g here i)
-  item_keeps enter well here (item.Ports at dir range names) two made new is there e = stays made new is (let same : made ≡ new = cc in same)
+  item_keeps enter well here (item.Ports at dir range names) two made new is there e = stays_good made new is (let same : made ≡ new = cc in same)
   item_keeps enter well here (item.Nets at range nets) two made new is there e =
       turns_keep here (λ net. performed (start_in g at) (net_deed g here net)) nets (every_one _ nets (λ net. net_keeps g here (start_in g at) net)) made new is there e
   item_keeps enter well here (item.Supply at one range names) two made new is there e =

@@ -1,6 +1,6 @@
 -- The pins of a memory's ports: each of them that is no clock has a name of its own.
-use Rattle.std.proofs.Common.{◌≡◌, ◌<◌, ◌∙◌, ℕ, zero, suc, Bool, true, false, cond, List, [], ◌∷◌, ◌++◌, Option, Some, None, ap, inl, inr, map, not, refl, subst, sym}
-use Rattle.std.specs.Prelude.{◌⊎◌, bytes_eq, filter, flat_map, slice_get}
+use Rattle.std.proofs.Common.{◌≡◌, ◌∙◌, ℕ, zero, suc, true, false, List, [], ◌∷◌, ◌++◌, Option, Some, None, ap, inl, inr, map, not, refl, subst, sym}
+use Rattle.std.specs.Prelude.{◌⊎◌, bytes_eq, flat_map, slice_get}
 use Rattle.std.specs.List.{list_any}
 use Rattle.std.proofs.lemmas.List.{map-append}
 use Rattle.std.proofs.lemmas.Option.{none-some, same_Some, slice_get-map}
@@ -16,9 +16,9 @@ use Rattle.cell_table.specs.Pins as table
 use Rattle.cell_table.specs.Pins.{clock_pins, edge_pins, has_twice, level_pins, name_pins}
 use Rattle.cell_parts.specs.declared.pins.Pin.{Pin}
 use Rattle.cell_parts.specs.Pins.{bit_pin, named_pins, once, pins_of, read_pins, wide_pin, write_pins}
-use Rattle.flattening.proofs.Everywhere.{Every, at_every, every_append, every_flat, every_more}
+use Rattle.flattening.proofs.Everywhere.{Every, at_every, every_append, every_flat, every_kept, every_more}
 use Rattle.flattening.proofs.GoodTies.{IsWide}
-use Rattle.flattening.proofs.SoundCells.{AreApart, any_named, or_none, port_names}
+use Rattle.flattening.proofs.SoundCells.{AreApart, or_none, port_names}
 
 name_of : Pin → List ℕ
 name_of pin = pin.name
@@ -142,9 +142,10 @@ module _ (address_bits width : ℕ) where
 
     write_sorted : (k : ℕ) (write : CellWrite) → slice_get writes k ≡ Some write → Every IsSorted (write_pins address_bits width write)
     unfolding own_writes
-    write_sorted k write at =
-        (inr (has_left (map (λ (w : CellWrite). w.clock.pin) writes) (flat_map (λ (r : CellRead). edge_pins r.clock) reads) write.clock.pin (record { place = k; at = slice_get-map (λ (w : CellWrite). w.clock.pin) writes k ∙ ap (λ (o : Option CellWrite). elim o [ None ↦ None | Some w ↦ Some w.clock.pin ]) at })),
-        at_every IsSorted (own_writes write) (λ j pin there. inl (write_has k write pin at (record { place = j; at = there }))))
+    write_sorted k write at = (
+      inr (has_left (map (λ (w : CellWrite). w.clock.pin) writes) (flat_map (λ (r : CellRead). edge_pins r.clock) reads) write.clock.pin (record { place = k; at = slice_get-map (λ (w : CellWrite). w.clock.pin) writes k ∙ ap (λ (o : Option CellWrite). elim o [ None ↦ None | Some w ↦ Some w.clock.pin ]) at })),
+      at_every IsSorted (own_writes write) (λ j pin there. inl (write_has k write pin at (record { place = j; at = there }))),
+    )
 
     read_sorted : (k : ℕ) (read : CellRead) → slice_get reads k ≡ Some read → Every IsSorted (read_pins address_bits width read)
     unfolding own_reads
@@ -155,9 +156,11 @@ module _ (address_bits width : ℕ) where
 
         go : (clock : Option EdgePin) → read.clock ≡ clock → Every IsSorted (map bit_pin (edge_pins clock) ++ map (wide_pin address_bits) (name_pins read.address) ++ wide_pin width read.bits ∷ [])
         go None e = rest
-        go (Some edge) e =
-            (inr (has_right (map (λ (w : CellWrite). w.clock.pin) writes) (flat_map (λ (r : CellRead). edge_pins r.clock) reads) edge.pin
-            (has_under (λ (r : CellRead). edge_pins r.clock) reads edge.pin (record { place = k; item = read; at = at; has = record { place = 0; at = ap (λ (c : Option EdgePin). slice_get (edge_pins c) 0) e } }))), rest)
+        go (Some edge) e = (
+          inr (has_right (map (λ (w : CellWrite). w.clock.pin) writes) (flat_map (λ (r : CellRead). edge_pins r.clock) reads) edge.pin
+              (has_under (λ (r : CellRead). edge_pins r.clock) reads edge.pin (record { place = k; item = read; at = at; has = record { place = 0; at = ap (λ (c : Option EdgePin). slice_get (edge_pins c) 0) e } }))),
+          rest,
+        )
 
     all_sorted : Every IsSorted (named_pins (Memory address_bits width writes reads))
     all_sorted =
@@ -182,17 +185,9 @@ module _ (address_bits width : ℕ) where
       one_width pin other needed has (inr clock) same =
           absurd (apart.apart pin.name (own_named pin has) (subst (λ (name : List ℕ). Has (clock_pins writes reads) name) same clock))
 
-      every_filter : {X : Type 0} (P : X → Type 0) (p : X → Bool) (xs : List X) → Every P xs → Every P (filter p xs)
-      every_filter P p [] all = tt
-      every_filter P p (x ∷ xs) all = go (p x) (every_filter P p xs all.1)
-        where
-          go : (b : Bool) → Every P (filter p xs) → Every P (cond b (x ∷ filter p xs) (filter p xs))
-          go true rest = (all.0, rest)
-          go false rest = rest
-
       every_once : (P : Pin → Type 0) (pins : List Pin) → Every P pins → Every P (once pins)
       every_once P [] all = tt
-      every_once P (pin ∷ pins) all = (all.0, every_filter P (λ other. not (bytes_eq pin.name other.name)) (once pins) (every_once P pins all.1))
+      every_once P (pin ∷ pins) all = (all.0, every_kept P (λ other. not (bytes_eq pin.name other.name)) (once pins) (every_once P pins all.1))
 
       -- each pin with the name of one of these has its width, and needs its nets
       pub wide_everywhere : (pin : Pin) → pin.needed ≡ true → Has own_pins pin → Every (IsWide pin.name pin.width) (pins_of (Memory address_bits width writes reads))

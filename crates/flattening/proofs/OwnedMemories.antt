@@ -1,10 +1,9 @@
 -- Memories that stand among elements in the order of their numbers: each is one element.
-use Rattle.std.proofs.Common.{◌≡◌, ◌+◌, ◌<◌, ◌≤◌, ◌∙◌, ℕ, zero, suc, Bool, true, false, cond, List, [], ◌∷◌, Option, Some, None, ap, arith, length, refl, slice_get, subst, sym, take}
+use Rattle.std.proofs.Common.{◌≡◌, ◌+◌, ◌<◌, ◌≤◌, ◌∙◌, ℕ, zero, suc, Bool, true, false, cond, List, [], ◌∷◌, Some, ap, arith, length, refl, slice_get, sym, take}
 use Rattle.std.specs.Prelude.{◌==◌, count_by}
 use Rattle.std.proofs.lemmas.Bool.Decides.{nat_tests}
 use Rattle.std.proofs.lemmas.List.Sums.{sum_by-cons}
 use Rattle.std.proofs.lemmas.Option.{none-some, same_Some}
-use Rattle.facts.proofs.Tests.{same_number}
 use Rattle.id_arena.specs.declared.keys.MemId.{MemId}
 use Rattle.design_core.specs.declared.element.Element.{Element}
 use Rattle.design_core.specs.declared.element.Element.TheVariants as element
@@ -37,31 +36,31 @@ pub record IsFirst (first next : ℕ) (es : List Element) (k : ℕ) (m : MemId) 
   pub high : m.place < next
   pub none : count_by (is_memory m.place) (take k es) ≡ 0
 
-pub first_at : (first next : ℕ) (es : List Element) (k : ℕ) (m : MemId) → Takes first es next → slice_get es k ≡ Some (element.Memory m) → IsFirst first next es k m
-first_at first next [] k m t at = absurd (none-some (element.Memory m) at)
-first_at first next (element.Gate op inputs output ∷ es) zero m t at = absurd (let clash : element.Gate op inputs output ≡ element.Memory m = same_Some _ _ at in cc)
-first_at first next (element.Flop f ∷ es) zero m t at = absurd (let clash : element.Flop f ≡ element.Memory m = same_Some _ _ at in cc)
-first_at first next (element.Latch l ∷ es) zero m t at = absurd (let clash : element.Latch l ≡ element.Memory m = same_Some _ _ at in cc)
-first_at first next (element.Memory x ∷ es) zero m t at =
+pub taken_once : (first next : ℕ) (es : List Element) (k : ℕ) (m : MemId) → Takes first es next → slice_get es k ≡ Some (element.Memory m) → IsFirst first next es k m
+taken_once first next [] k m t at = absurd (none-some (element.Memory m) at)
+taken_once first next (element.Gate op inputs output ∷ es) zero m t at = absurd (let clash : element.Gate op inputs output ≡ element.Memory m = same_Some _ _ at in cc)
+taken_once first next (element.Flop f ∷ es) zero m t at = absurd (let clash : element.Flop f ≡ element.Memory m = same_Some _ _ at in cc)
+taken_once first next (element.Latch l ∷ es) zero m t at = absurd (let clash : element.Latch l ≡ element.Memory m = same_Some _ _ at in cc)
+taken_once first next (element.Memory x ∷ es) zero m t at =
     let same : element.Memory x ≡ element.Memory m = same_Some _ _ at in
     let is : x ≡ m = cc in
     let number : m.place ≡ first = ap (λ (y : MemId). y.place) (sym is) ∙ t.0 in
     let up = takes_up (first + 1) next es t.1 in
     record { low = omega (arith, number); high = omega (arith, number, up); none = refl }
-first_at first next (element.Gate op inputs output ∷ es) (suc k) m t at =
-    let rest = first_at first next es k m t at in
+taken_once first next (element.Gate op inputs output ∷ es) (suc k) m t at =
+    let rest = taken_once first next es k m t at in
     let split = count_cons m.place (element.Gate op inputs output) (take k es) in
     record { low = rest.low; high = rest.high; none = (let none = rest.none in omega (arith, split, none)) }
-first_at first next (element.Flop f ∷ es) (suc k) m t at =
-    let rest = first_at first next es k m t at in
+taken_once first next (element.Flop f ∷ es) (suc k) m t at =
+    let rest = taken_once first next es k m t at in
     let split = count_cons m.place (element.Flop f) (take k es) in
     record { low = rest.low; high = rest.high; none = (let none = rest.none in omega (arith, split, none)) }
-first_at first next (element.Latch l ∷ es) (suc k) m t at =
-    let rest = first_at first next es k m t at in
+taken_once first next (element.Latch l ∷ es) (suc k) m t at =
+    let rest = taken_once first next es k m t at in
     let split = count_cons m.place (element.Latch l) (take k es) in
     record { low = rest.low; high = rest.high; none = (let none = rest.none in omega (arith, split, none)) }
-first_at first next (element.Memory x ∷ es) (suc k) m t at =
-    let rest = first_at (first + 1) next es k m t.1 at in
+taken_once first next (element.Memory x ∷ es) (suc k) m t at =
+    let rest = taken_once (first + 1) next es k m t.1 at in
     let low = rest.low in
     let number = t.0 in
     let split = count_cons m.place (element.Memory x) (take k es) in

@@ -1,12 +1,10 @@
 -- Tests that pass, and steps that are not refused.
-use Rattle.std.proofs.Common.{◌≡◌, ◌<◌, ◌≤◌, ◌+◌, ℕ, Bool, true, false, List, [], ◌∷◌, ◌++◌, Option, Some, None, Result, Ok, Err, length, map, refl, sym, arith}
+use Rattle.std.proofs.Common.{◌≡◌, ◌≤◌, ◌+◌, ℕ, Bool, true, false, List, [], ◌∷◌, ◌++◌, Some, None, Ok, Err, length, map, refl, sym, arith}
 use Rattle.std.specs.Prelude.{flat_map, if◌then◌else◌, nat_lt}
-use Rattle.std.specs.Option.{option_or}
 use Rattle.std.proofs.lemmas.Bool.{ltb-false}
 use Rattle.std.proofs.lemmas.Option.{none-some}
 use Rattle.design_core.specs.declared.fault.LimitKind.{LimitKind}
 use Rattle.design_core.specs.Most.{most_elements, most_nets, most_words}
-use Rattle.flattening.specs.declared.fault.ElabFault.{ElabFault}
 use Rattle.flattening.specs.declared.fault.ElabFault.TheVariants.{Limit}
 use Rattle.flattening.specs.declared.made.Made.{Made}
 use Rattle.flattening.specs.Pieces.{Deed, beyond, joined, performed, room_tests, words_in}
@@ -17,10 +15,10 @@ use Rattle.flattening.proofs.Everywhere.{Every}
 abbrev pub Passes : Test → Type 0
 Passes test = test ≡ None
 
-pub passed : (tests : List Test) → first_fault tests ≡ None → Every Passes tests
-passed [] none = tt
-passed (None ∷ tests) none = (refl, passed tests none)
-passed (Some fault ∷ tests) none = absurd (none-some fault (sym none))
+pub each_passes : (tests : List Test) → first_fault tests ≡ None → Every Passes tests
+each_passes [] none = tt
+each_passes (None ∷ tests) none = (refl, each_passes tests none)
+each_passes (Some fault ∷ tests) none = absurd (none-some fault (sym none))
 
 pub every_parts : {X : Type 0} (P : X → Type 0) (xs ys : List X) → Every P (xs ++ ys) → Every P xs × Every P ys
 every_parts P [] ys all = (tt, all)
@@ -60,7 +58,7 @@ pub done : (first next : Step) (made new : Made) → followed (first made) next 
 done first next made new e = done_by first next made new (first made) refl e
 
 pub tested_ok : (tests : List Test) (made new : Made) → tested tests made ≡ Ok new → Every Passes tests × (made ≡ new)
-tested_ok tests made new e = let parts = unless_ok (first_fault tests) made new e in (passed tests parts.0, parts.1)
+tested_ok tests made new e = let parts = unless_ok (first_fault tests) made new e in (each_passes tests parts.0, parts.1)
 
 -- a deed is done where its tests pass, and there is room for its piece
 pub record IsPerformed (deed : Deed) (made new : Made) : Type 0 where
@@ -73,7 +71,7 @@ pub record IsPerformed (deed : Deed) (made new : Made) : Type 0 where
 pub performed_ok : (at : ℕ) (deed : Deed) (made new : Made) → performed at deed made ≡ Ok new → IsPerformed deed made new
 performed_ok at deed made new e =
     let parts = unless_ok (first_fault (deed.tests ++ room_tests at made deed.piece)) (joined made deed.piece) new e in
-    let tests = every_parts Passes deed.tests (room_tests at made deed.piece) (passed (deed.tests ++ room_tests at made deed.piece) parts.0) in
+    let tests = every_parts Passes deed.tests (room_tests at made deed.piece) (each_passes (deed.tests ++ room_tests at made deed.piece) parts.0) in
     record {
       tests = tests.0;
       nets = within_most _ at most_nets _ tests.1.0;

@@ -1,7 +1,7 @@
 -- The ports of the top are nets that are there, and no more than its nets: no name stands twice in its header.
 use Rattle.std.proofs.Common.{◌≡◌, ◌+◌, ◌-◌, ◌<◌, ◌≤◌, ◌∙◌, ℕ, zero, suc, Bool, true, false, cond, List, [], ◌∷◌, ◌++◌, Option, Some, None, ap, arith, length, length-append, map, option_map, refl, slice_get, subst, sym, take}
 use Rattle.std.specs.Prelude.{◌&&◌, bytes_eq, filter, flat_map, if◌then◌else◌, nat_lt, not, option_and_then}
-use Rattle.std.specs.List.{enumerate_from, list_all, list_any, range_with_len}
+use Rattle.std.specs.List.{enumerate_from, range_with_len}
 use Rattle.std.proofs.lemmas.Bool.{lt-ltb}
 use Rattle.std.proofs.lemmas.List.{length-map}
 use Rattle.std.proofs.lemmas.List.Elements.{filter-append}
@@ -23,7 +23,6 @@ use Rattle.design_core.specs.Faults.{are_there, is_there, ports_there}
 use Rattle.module_nets.specs.declared.fault.Cause.{Cause}
 use Rattle.module_nets.specs.declared.fault.Cause.TheVariants.{NotDeclared, NameTwice, Width}
 use Rattle.module_nets.specs.declared.mention.Mention.{Mention}
-use Rattle.module_nets.specs.declared.mention.Role.{Role}
 use Rattle.module_nets.specs.declared.nets.Net.{Net}
 use Rattle.module_nets.specs.Declarations.{agrees, cause_at, cause_of, counts, is_taken, is_unknown, is_wide, width_of}
 use Rattle.module_nets.specs.Mentions.{head_mention, head_role, item_mentions, mentions}
@@ -35,9 +34,9 @@ use Rattle.flattening.specs.declared.fault.ElabFault.{ElabFault}
 use Rattle.flattening.specs.Faults.{declaration_tests, fault_of, mention_test}
 use Rattle.flattening.specs.Flattening.{port_of, ports_with}
 use Rattle.flattening.specs.Instances.{has_dir}
-use Rattle.flattening.specs.Places.{Given, Inside, dir_named, name_in, named_bits, net_numbers, start_in}
+use Rattle.flattening.specs.Places.{Given, Inside, name_in, named_bits, net_numbers, start_in}
 use Rattle.flattening.proofs.Entered.{bit_total}
-use Rattle.flattening.proofs.Everywhere.{Every, at_every, every_at, every_map, every_more, every_one, every_passes}
+use Rattle.flattening.proofs.Everywhere.{Every, at_every, every_at, every_kept, every_map, every_one, every_passes}
 use Rattle.flattening.proofs.GoodBits.{named_below}
 use Rattle.flattening.proofs.GoodPieces.{AreBelow}
 use Rattle.flattening.proofs.Growing.{AreFit}
@@ -49,14 +48,6 @@ use Rattle.flattening.proofs.Passing.{Passes, of_map}
 Differ : List Name → Type 0
 Differ [] = Unit {0}
 Differ (name ∷ later) = Every (λ (other : Name). bytes_eq other name ≡ false) later × Differ later
-
-every_kept : {X : Type 0} (P : X → Type 0) (p : X → Bool) (xs : List X) → Every P xs → Every P (filter p xs)
-every_kept P p [] all = tt
-every_kept P p (x ∷ xs) all = go (p x) (every_kept P p xs all.1)
-  where
-    go : (b : Bool) → Every P (filter p xs) → Every P (cond b (x ∷ filter p xs) (filter p xs))
-    go true rest = (all.0, rest)
-    go false rest = rest
 
 differ_kept : (p : Name → Bool) (names : List Name) → Differ names → Differ (filter p names)
 unfolding Differ
@@ -80,10 +71,11 @@ module _ (text : ℕ → Name) where
   differ : (ports : List PortName) → Pairwise ports → Differ (map (λ p. text p.name) ports)
   unfolding Differ Pairwise
   differ [] each = tt
-  differ (port ∷ ports) each =
-      (every_map (λ (other : Name). bytes_eq other (text port.name) ≡ false) (λ (p : PortName). text p.name) ports
-      (at_every (λ (p : PortName). bytes_eq (text p.name) (text port.name) ≡ false) ports (λ k p at. each 0 (suc k) port p (omega arith) refl at)),
-      differ ports (λ j k p q less at there. each (suc j) (suc k) p q (omega (arith, less)) at there))
+  differ (port ∷ ports) each = (
+    every_map (λ (other : Name). bytes_eq other (text port.name) ≡ false) (λ (p : PortName). text p.name) ports
+        (at_every (λ (p : PortName). bytes_eq (text p.name) (text port.name) ≡ false) ports (λ k p at. each 0 (suc k) port p (omega arith) refl at)),
+    differ ports (λ j k p q less at there. each (suc j) (suc k) p q (omega (arith, less)) at there),
+  )
 
   -- ports of a header have no name in common
   heads_clash : (p q : PortName) → agrees (head_mention p).role (head_mention q).role ≡ false

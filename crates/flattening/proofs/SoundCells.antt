@@ -1,13 +1,13 @@
 -- Each cell of a table is sound, and has a pin that it drives where it is combinational.
-use Rattle.std.proofs.Common.{◌≡◌, ◌==◌, ◌<◌, ◌∙◌, ℕ, zero, suc, List, [], ◌∷◌, ◌++◌, append_assoc, Bool, true, false, Option, Some, None, Ok, subst, refl, sym, ap, map, length, take, arith}
-use Rattle.std.specs.Prelude.{◌||◌, IfSome, option_and_then, slice_get, bytes_eq, flat_map, if◌then◌else◌, codes, option_map}
+use Rattle.std.proofs.Common.{◌≡◌, ◌==◌, ◌<◌, ◌∙◌, ℕ, zero, suc, List, [], ◌∷◌, ◌++◌, Bool, true, false, Option, Some, None, subst, refl, sym, ap, length, take, arith}
+use Rattle.std.specs.Prelude.{◌||◌, IfSome, option_and_then, slice_get, bytes_eq, flat_map, if◌then◌else◌, codes}
 use Rattle.std.specs.List.{list_any}
 use Rattle.std.proofs.lemmas.Bool.Decides.{nat_tests}
+use Rattle.std.proofs.lemmas.List.{length-map}
 use Rattle.std.proofs.lemmas.List.Folds.{list_any-append}
 use Rattle.std.proofs.lemmas.Option.{none-some, option_and_then_some, same_Some}
 use Rattle.std.proofs.lemmas.Slice.Eq.{bytes_eq-Decides}
 use Rattle.serde_json.specs.Data.{Data}
-use Rattle.serde_json.specs.Find.{get}
 use Rattle.facts.proofs.Lists.{Has, any_at, has_left, has_right}
 use Rattle.facts.proofs.Tests.{mapped, no}
 use Rattle.json_members.specs.Members.{all_of, text_member, word_member}
@@ -89,10 +89,6 @@ found_some : {A : Type 0} (o : Option A) (x : A) (P : A → Type 0) → o ≡ So
 found_some None x P e is = absurd (none-some x e)
 found_some (Some y) x P e is = subst P (same_Some y x e) is
 
-length_same : {X Y : Type 0} (f : X → Y) (xs : List X) → length (map f xs) ≡ length xs
-length_same f [] = refl
-length_same f (x ∷ xs) = ap suc (length_same f xs)
-
 -- ---- the pins of its ports are apart
 
 pub or_none : (a b : Bool) → (a || b) ≡ false → (a ≡ false) × (b ≡ false)
@@ -156,7 +152,7 @@ module _ (version : ℕ) where
       then_some _ (outs_member d) _ (λ outputs.
       unless_some (length outputs == 0) _ _ (λ none.
       (let some : 0 < length outputs = grind (arith, nat_tests) in
-      let same = length_same comb_out_of outputs in
+      let same = length-map outputs comb_out_of in
       (omega (arith, same, some), λ _. tt)))))
 
   flop_good : (d : Data) → IfSome (flop_of d) (λ kind. DrivesSome (cell_kind_of kind) × (stands_twice (pins_of version kind) (shared_pins version kind) ≡ false → HasOwnPins (cell_kind_of kind)))

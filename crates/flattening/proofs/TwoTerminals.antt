@@ -1,5 +1,5 @@
 -- Each primitive of a tree has two terminals at least.
-use Rattle.std.proofs.Common.{◌≡◌, ◌≤◌, ℕ, List, length}
+use Rattle.std.proofs.Common.{◌≤◌, ℕ, List, length}
 use Rattle.verilog_tree.specs.declared.terminal.Terminal.{Terminal}
 use Rattle.verilog_tree.specs.declared.source.GatePart.{GatePart}
 use Rattle.verilog_tree.specs.declared.source.Item.{Item}

@@ -1,17 +1,12 @@
 -- What is flattened out of a text is refused for its drivers alone.
-use Rattle.std.proofs.Common.{◌≡◌, ◌==◌, ◌+◌, ◌<◌, ◌≤◌, ◌∙◌, ℕ, Bool, true, false, List, [], ◌∷◌, ◌++◌, Option, Some, None, Result, Ok, Err, ap, arith, length, map, refl, slice_get, subst, sym, take}
-use Rattle.std.specs.Prelude.{◌&&◌, IfSome, count_by, nat_le, nat_lt}
+use Rattle.std.proofs.Common.{◌≡◌, ◌+◌, ◌<◌, ◌≤◌, ◌∙◌, ℕ, true, List, [], ◌∷◌, Option, Some, None, arith, length, refl, slice_get, sym, take}
+use Rattle.std.specs.Prelude.{◌&&◌, IfSome, count_by, nat_lt}
 use Rattle.std.specs.List.{enumerate_from, list_all}
 use Rattle.std.proofs.lemmas.Bool.{eq-eqb, le-leb, lt-ltb}
 use Rattle.std.proofs.lemmas.Option.{none-some, slice_get-get_or, slice_get_within}
-use Rattle.facts.proofs.Lists.{Numbered, numbered}
+use Rattle.facts.proofs.Lists.{numbered}
 use Rattle.facts.proofs.Tests.{same_number}
 use Rattle.id_arena.specs.declared.keys.NetId.{NetId}
-use Rattle.verilog_lex.specs.declared.token.Token.{Token}
-use Rattle.verilog_tree.specs.declared.source.Dir.{Dir}
-use Rattle.verilog_tree.specs.declared.source.Module.{Module}
-use Rattle.verilog_tree.specs.declared.source.Source.{Source}
-use Rattle.verilog_tree.specs.Terminal.{terminal_at}
 use Rattle.design_core.specs.declared.element.Element.{Element}
 use Rattle.design_core.specs.declared.element.Element.TheVariants as element
 use Rattle.design_core.specs.declared.element.Memory.{Memory}
@@ -23,19 +18,16 @@ use Rattle.design_core.specs.declared.parts.NetName.{NetName}
 use Rattle.design_core.specs.declared.parts.Parts.{Parts}
 use Rattle.design_core.specs.declared.parts.Port.{Port}
 use Rattle.design_core.specs.declared.parts.Scope.{Scope}
-use Rattle.design_core.specs.Design.{element_reads, is_memory, memory_fits, read_reads, write_reads}
-use Rattle.design_core.specs.Faults.{AreGood, are_there, around_good, element_good, element_outputs, is_there, memory_good, parent_earlier, ports_there, rest_good, scope_there, shape_good, thing_good, within}
+use Rattle.design_core.specs.Design.{element_reads, is_memory, read_reads, write_reads}
+use Rattle.design_core.specs.Faults.{AreGood, are_there, element_good, element_outputs, is_there, memory_good, parent_earlier, rest_good, scope_there, shape_good, thing_good, within}
 use Rattle.design_core.specs.Limits.{IsCountable, inputs_within}
 use Rattle.design_core.specs.Most.{most_elements, most_nets, most_words}
 use Rattle.flattening.specs.declared.made.Made.{Made}
-use Rattle.flattening.specs.Instances.{is_input, is_output, most_modules}
-use Rattle.flattening.specs.Laws.{FlattenedPartsAreWhole, IsWhole}
-use Rattle.flattening.specs.Places.{Given, Inside}
-use Rattle.flattening.specs.Flattening.{parts_of, ports_with}
-use Rattle.flattening.proofs.Everywhere.{Every, at_every, every_at, every_passes}
+use Rattle.flattening.specs.Laws.{IsWhole}
+use Rattle.flattening.proofs.Everywhere.{at_every, every_at, every_passes}
 use Rattle.flattening.proofs.GoodPieces.{AreBelow, IsGoodElement, IsGoodMemory, IsReadBelow, IsWriteBelow, StandIn}
 use Rattle.flattening.proofs.Growing.{IsMade}
-use Rattle.flattening.proofs.OwnedMemories.{first_at, some_at, takes_few}
+use Rattle.flattening.proofs.OwnedMemories.{taken_once, some_at, takes_few}
 use Rattle.flattening.proofs.PortBits.{ArePorts}
 
 -- ---- facts as tests
@@ -98,7 +90,7 @@ module _ (made : Made) (is : IsMade made) (inputs outputs : List Port) (bits : �
   element_shape k (element.Flop f) at good = refl
   element_shape k (element.Latch l) at good = refl
   element_shape k (element.Memory m) at one =
-      let first = first_at 0 (0 + length made.memories) made.elements k m is.good.takes at in
+      let first = taken_once 0 (0 + length made.memories) made.elements k m is.good.takes at in
       let none = same_number (count_by (is_memory m.place) (take k made.elements)) 0 first.none in
       let there = go (slice_get made.memories m.place) refl (let high = first.high in omega (arith, high)) in
       λ i. none i && there i
