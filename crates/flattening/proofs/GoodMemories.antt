@@ -143,6 +143,12 @@ module _ (n : ℕ) (w : Wires) (two : 2 ≤ n) (wires : AreWires n w) where
     at_below n w some_nets wires read.bits,
   )
 
+two_same : (a b x y : ℕ) → (a ≡ x) × (b ≡ y) → ((a == x) && (b == y)) ≡ true
+two_same a b x y are =
+    let first = same_number a x are.0 in
+    let next = same_number b y are.1 in
+    λ i. first i && next i
+
 -- a write port and a read port of these dimensions
 abbrev IsWriteLong : ℕ → ℕ → WritePort → Type 0
 IsWriteLong address_bits width port = (length port.address ≡ address_bits) × (length port.feed ≡ width)
@@ -203,8 +209,8 @@ module _ (address_bits width : ℕ) (writes : List CellWrite) (reads : List Cell
         let b = lt-ltb 0 width (let some = sound.some_width in omega (arith, some)) in
         let c = le-leb width 128 sound.small_width in
         let d = le-leb (length (map (write_port w) writes) + length (map (read_port w) reads)) 16 (let x = length-map writes (write_port w) in let y = length-map reads (read_port w) in let few = sound.few_ports in omega (arith, x, y, few)) in
-        let e = every_passes (IsWriteLong address_bits width) (λ (port : WritePort). (length port.address == address_bits) && (length port.feed == width)) (map (write_port w) writes) (λ port long. (let a-2 = same_number _ _ long.0 in let b-2 = same_number _ _ long.1 in λ i. a-2 i && b-2 i)) (every_map (IsWriteLong address_bits width) (write_port w) writes writes_long) in
-        let f = every_passes (IsReadLong address_bits width) (λ (port : ReadPort). (length port.address == address_bits) && (length port.bits == width)) (map (read_port w) reads) (λ port long. (let a-2 = same_number _ _ long.0 in let b-2 = same_number _ _ long.1 in λ i. a-2 i && b-2 i)) (every_map (IsReadLong address_bits width) (read_port w) reads reads_long) in
+        let e = every_passes (IsWriteLong address_bits width) (λ (port : WritePort). (length port.address == address_bits) && (length port.feed == width)) (map (write_port w) writes) (λ port long. two_same _ _ _ _ long) (every_map (IsWriteLong address_bits width) (write_port w) writes writes_long) in
+        let f = every_passes (IsReadLong address_bits width) (λ (port : ReadPort). (length port.address == address_bits) && (length port.bits == width)) (map (read_port w) reads) (λ port long. two_same _ _ _ _ long) (every_map (IsReadLong address_bits width) (read_port w) reads reads_long) in
         λ i. a i && b i && c i && d i && e i && f i
 
     pub memory_is_good : (n : ℕ) → 2 ≤ n → AreWires n (wires_of next tied) → IsGoodMemory n (memory_at (wires_of next tied) address_bits width writes reads)
