@@ -13,3 +13,6 @@ mod TwiceNamed
 mod Porting
 mod OwnNets
 mod Admitting
+mod Walking
+mod OfDrivers
+mod Whole

@@ -5,3 +5,6 @@ pub mod Targets
 pub mod Ties
 pub mod Primitives
 pub mod Walk
+pub mod ReadyCells
+pub mod Top
+pub mod Awaited

@@ -18,7 +18,7 @@ use std::alloc::Global;
 use verilog_tree::{Dir, Inst, PortName};
 
 /// The direction of the port of a name in an instance, if it has such a port.
-fn direction(child: &Instance, name: &[u8]) -> Option<Dir>
+pub(crate) fn direction(child: &Instance, name: &[u8]) -> Option<Dir>
     requires { AreNumbered child.now.base child.now.nets }
     ensures { result ≡ dir_named child.now name.now }
 {

@@ -5,6 +5,7 @@
 #![tactic(auto)]
 
 mod assign;
+mod cells;
 mod entering;
 mod feeding;
 mod making;
@@ -17,7 +18,9 @@ mod standing;
 mod supply;
 mod targets;
 mod ties;
+mod top;
 mod value;
+mod walk;
 
 pub use assign::{do_nets, do_pairs};
 pub use making::Making;
@@ -27,4 +30,5 @@ pub use sockets::{Sockets, port_sockets};
 pub use supply::do_supplies;
 pub use targets::target_fault;
 pub use ties::read_links;
+pub use top::elaborate;
 pub use value::{fault_of, read};
