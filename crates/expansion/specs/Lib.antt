@@ -7,4 +7,3 @@ pub mod Primitives
 pub mod Walk
 pub mod ReadyCells
 pub mod Top
-pub mod Awaited

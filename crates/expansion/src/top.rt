@@ -7,10 +7,10 @@ ghost use Rattle.verilog_lex.specs.Reads.{Reads};
 ghost use Rattle.verilog_tree.specs.Source.{Explains};
 ghost use Rattle.verilog_tree.specs.Terminal.{terminal_at};
 ghost use Rattle.flattening.specs.Flattening.{constants_alone, flattened, parts_of, ports_with};
+ghost use Rattle.flattening.specs.Laws.{IsTable, IsWhole};
 ghost use Rattle.flattening.specs.Pieces.{joined};
 ghost use Rattle.flattening.specs.Places.{module_names};
 ghost use Rattle.flattening.specs.Stands.{Answers, given_by};
-ghost use Rattle.expansion.specs.Awaited.{FlattenedPartsAreWhole, IsTable, IsWhole};
 ghost use Rattle.expansion.specs.Top.{BuildsWhole, Tells, added_port, constant_alone, is_side};
 
 use crate::cells::ReadyCells;
@@ -24,6 +24,7 @@ use cell_table::CellTable;
 use design_core::{Design, DesignFault, NetName, Parts, Port};
 use emu_io::{List, NoMemory, Text};
 use flattening::ElabFault;
+use flattening::laws::flattened_parts_are_whole;
 use std::alloc::Global;
 use verilog_lex::Tokens;
 use verilog_tree::{Dir, Source};
@@ -187,9 +188,9 @@ pub fn elaborate(
     requires tokens { Reads source.now true 0 (Ok tokens.now) }
     requires tree { Explains (map terminal_at tokens.now) (Ok tree.now) }
     requires cells { IsTable cells.now }
-    requires awaited { FlattenedPartsAreWhole }
     ensures { Answers (given_by source.now tokens.now tree.now cells.now) top.now result }
 {
+    flattened_parts_are_whole();
     let setting = Setting {
         source,
         tokens,
