@@ -13,3 +13,4 @@ mod TwiceNamed
 mod Porting
 mod OwnNets
 mod Admitting
+mod CellPieces

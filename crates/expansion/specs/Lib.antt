@@ -5,3 +5,4 @@ pub mod Targets
 pub mod Ties
 pub mod Primitives
 pub mod Walk
+pub mod ReadyCells

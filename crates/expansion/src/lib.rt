@@ -5,6 +5,7 @@
 #![tactic(auto)]
 
 mod assign;
+mod cells;
 mod entering;
 mod feeding;
 mod making;
