@@ -1,17 +1,15 @@
 -- What an instance of a cell makes, part by part, and the limits on it.
-use Rattle.std.proofs.Common.{◌≡◌, ◌+◌, ◌≤◌, ◌∙◌, ℕ, Bool, true, false, cond, Option, Some, None, List, [], ◌∷◌, ◌++◌, Ok, Err, ap, append-nil, arith, length, map, min, refl, sym}
-use Rattle.std.specs.Prelude.{◌==◌, codes, flat_map, nat_lt, slice_get, sum_by}
+use Rattle.std.proofs.Common.{replicate, subst, ◌≡◌, ◌+◌, ◌≤◌, ◌∙◌, ℕ, Bool, true, false, cond, Option, Some, None, List, [], ◌∷◌, ◌++◌, Ok, Err, ap, append-nil, arith, length, map, min, refl, sym}
+use Rattle.std.specs.Prelude.{◌==◌, codes, flat_map, nat_lt, sum_by}
 use Rattle.std.specs.List.{range_with_len}
 use Rattle.std.specs.Option.{option_or}
 use Rattle.std.proofs.lemmas.Bool.Decides.{nat_tests}
 use Rattle.std.proofs.lemmas.List.{length-append, length-map}
 use Rattle.std.proofs.lemmas.List.Concat.{length-flat_map}
 use Rattle.std.proofs.lemmas.List.FromFn.{length-map-range_with_len}
-use Rattle.id_arena.specs.Names.{place_among}
+use Rattle.std.proofs.lemmas.Simd.{splat_is_map}
 use Rattle.verilog_tree.specs.declared.source.Inst.{Inst}
-use Rattle.cell_table.specs.declared.cell.Cell.{Cell}
 use Rattle.cell_table.specs.declared.cell.CellKind.{CellKind}
-use Rattle.cell_table.specs.Table.{names_of}
 use Rattle.cell_parts.specs.CellElements.{cell_elements, cell_memories, inner_count}
 use Rattle.cell_parts.specs.Wires.{TiedPin, Wires, inner_names, new_count, new_indices, new_names, new_width, wires_of}
 use Rattle.design_core.specs.declared.element.Element.{Element}
@@ -20,12 +18,9 @@ use Rattle.design_core.specs.declared.fault.LimitKind.TheVariants.{Elements, Net
 use Rattle.design_core.specs.declared.parts.NetName.{NetName}
 use Rattle.design_core.specs.declared.parts.Scope.{Scope}
 use Rattle.design_core.specs.Most.{most_elements, most_nets, most_words}
-use Rattle.module_nets.specs.Names.{Name}
 use Rattle.flattening.specs.declared.fault.ElabFault.{ElabFault}
-use Rattle.flattening.specs.declared.fault.ElabFault.TheVariants.{UnknownModule}
 use Rattle.flattening.specs.declared.made.Made.{Made}
-use Rattle.flattening.specs.Cells.{cell_deed, cell_piece_with}
-use Rattle.flattening.specs.Flattening.{cell_named, cell_step}
+use Rattle.flattening.specs.Cells.{cell_piece_with}
 use Rattle.flattening.specs.Pieces.{beyond, elements_in, joined, nothing, performed, room_tests, words_in}
 use Rattle.flattening.specs.Places.{Given, Inside, name_in}
 use Rattle.flattening.specs.Steps.{Test, first_fault, unless}
@@ -169,9 +164,18 @@ words_left at made elements words is =
     below_most (words_in made.memories + words)
     (not_beyond (nat_lt 4194304 (words_in made.memories + words)) _ (third_none _ _ _ is))
 
--- the name of no cell, and that of a cell
-pub unknown : (g : Given) (here : Inside) (at : ℕ) (inst : Inst) (name : Name) (made : Made) → place_among (names_of g.cells) name ≡ None → cell_step g here at inst (cell_named g name) made ≡ Err (UnknownModule at)
-unknown g here at inst name made none = rw none refl
+-- and there is room for them when a scope and elements are put behind
+pub room_there : (at elements words own : ℕ) (named scoped filled : Made) (scopes : List Scope) (path : ℕ) (es : List Element) → scoped ≡ joined named (record nothing { scopes = scopes }) → filled ≡ joined scoped (elements_in path es) → words ≡ own → first_fault (limits at named 0 elements words) ≡ None → words_in filled.memories + own ≤ 4194304
+room_there at elements words own named scoped filled scopes path es s f same is =
+    let memories : filled.memories ≡ named.memories = ap (λ (m : Made). m.memories) f ∙ append-nil scoped.memories ∙ ap (λ (m : Made). m.memories) s ∙ append-nil named.memories in
+    subst (λ (l : List Memory). words_in l + own ≤ 4194304) (sym memories) (subst (λ (n : ℕ). words_in named.memories + n ≤ 4194304) same (words_left at named elements words is))
 
-pub known : (g : Given) (here : Inside) (at : ℕ) (inst : Inst) (name : Name) (made : Made) (place : ℕ) (cell : Cell) → place_among (names_of g.cells) name ≡ Some place → slice_get g.cells place ≡ Some cell → cell_step g here at inst (cell_named g name) made ≡ performed at (cell_deed g here inst cell made) made
-known g here at inst name made place cell found there = rw (found, there) refl
+-- elements that are put behind others with the scope of each path
+pub elements_put : (inside made : Made) (scope count memory : ℕ) (elements : ℕ → List Element) (out : List Element) (ends : List ℕ) → inside ≡ made → memory ≡ length made.memories → out ≡ inside.elements ++ elements memory → count ≡ length (elements memory) → ends ≡ inside.paths ++ replicate count scope →
+    record { net_names = inside.net_names; scopes = inside.scopes; elements = out; paths = ends; memories = inside.memories; modules = inside.modules } ≡ joined made (elements_in scope (elements (length made.memories)))
+elements_put inside made scope count memory elements out ends same number o n e =
+    let paths : replicate count scope ≡ map (λ (x : Element). scope) (elements memory) = splat_is_map (elements memory) count scope (sym n) in
+    let here : record { net_names = inside.net_names; scopes = inside.scopes; elements = out; paths = ends; memories = inside.memories; modules = inside.modules } ≡ joined inside (elements_in scope (elements memory))
+      = rw (o, e, paths, append-nil inside.net_names, append-nil inside.scopes, append-nil inside.memories, zero_more inside.modules) refl
+    in
+    here ∙ (λ j. joined (same j) (elements_in scope (elements (number j))))

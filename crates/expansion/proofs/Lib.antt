@@ -14,3 +14,5 @@ mod Porting
 mod OwnNets
 mod Admitting
 mod CellPieces
+mod CellMemories
+mod CellTies

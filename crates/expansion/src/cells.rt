@@ -77,6 +77,7 @@ impl ReadyCells {
 }
 
 /// How many words the memory of an instance has; none where the cell is no memory.
+#[tactic(auto, unfolding(cell_parts::specs::CellElements::cell_memories))]
 fn words_of(kind: &CellKind) -> u64
     requires { IsSoundKind kind.now }
     ensures { (wires : Wires) → result ≡ words_in (cell_memories wires kind.now) }

@@ -243,6 +243,16 @@ impl Making {
     }
 }
 
+/// Lets the paths of so many elements more end in this scope.
+fn push_paths(ends: &mut List<u32>, scope: u32, count: u64) -> Result<(), NoMemory>
+    ensures { OnOk result (ends.new ≡ ends.old ++ replicate count scope) }
+{
+    'paths: for _ in 0..count {
+        ends.push(scope)?;
+    }
+    Ok(())
+}
+
 /// What an instance of a cell makes.
 impl Making {
     /// The number of the next memory. Memories that are too many to be numbered are want of memory.
@@ -273,16 +283,6 @@ impl Making {
         push_inner_names(alloc, &mut self.made.net_names, scope, inner)
     }
 
-    /// Lets the paths of so many elements end in this scope.
-    fn push_paths(&mut self, scope: u32, count: u64) -> Result<(), NoMemory>
-        ensures { OnOk result (self.new ≡ record self.old { paths = self.old.paths ++ replicate count scope }) }
-    {
-        'paths: for _ in 0..count {
-            self.made.paths.push(scope)?;
-        }
-        Ok(())
-    }
-
     /// Puts the elements of a cell behind all others; their paths end in this scope. Its inner nets have the
     /// numbers from `inner` on, and its memory is the next.
     pub(crate) fn push_cell_elements(
@@ -298,7 +298,8 @@ impl Making {
     {
         let memory = self.next_memory()?;
         push_elements(alloc, &mut self.made.elements, wires, inner, memory, kind)?;
-        self.push_paths(scope, element_count(wires, kind))
+        push_paths(&mut self.made.paths, scope, element_count(wires, kind))?;
+        Ok(())
     }
 
     /// Puts a memory behind all others, whose words there is room for.
