@@ -16,3 +16,6 @@ mod Admitting
 mod Walking
 mod OfDrivers
 mod Whole
+mod CellPieces
+mod CellMemories
+mod CellTies

@@ -1,6 +1,6 @@
 //! The limits on what is made.
 
-ghost use Rattle.std.specs.Prelude.{◌≡◌, ◌+◌};
+ghost use Rattle.std.specs.Prelude.{◌≡◌, ◌+◌, ◌≤◌, ◌^◌};
 ghost use Rattle.flattening.specs.Pieces.{beyond};
 
 use design_core::LimitKind;
@@ -33,4 +33,13 @@ pub(crate) fn beyond(
     } else {
         None
     }
+}
+
+/// How many words a memory has that has so many address bits.
+pub(crate) fn word_count(address_bits: u32) -> u64
+    requires { address_bits ≤ 16 }
+    ensures is { result ≡ 2 ^ address_bits }
+    ensures low { result ≤ 65536 }
+{
+    1 << address_bits
 }

@@ -1,13 +1,12 @@
 //! What is given, and the instance of a module that is flattened.
 
-ghost use Rattle.std.specs.Prelude.{◌≡◌, ◌≤◌, ◌<◌, ◌+◌, ◌++◌, IfOk, OnOk, Some, length, map, option_copied, slice_get};
+ghost use Rattle.std.specs.Prelude.{◌≡◌, ◌≤◌, ◌<◌, ◌+◌, ◌++◌, IfOk, OnOk, Some, length, map, slice_get};
 ghost use Rattle.std.specs.List.{range_with_len};
 ghost use Rattle.module_bits.specs.Bits.{net_at};
 ghost use Rattle.module_bits.specs.Names.{AreNumbered};
-ghost use Rattle.flattening.specs.Flattening.{cell_named};
 ghost use Rattle.flattening.specs.Places.{context_of, name_in, named_bits, start_in};
 
-use cell_table::{Cell, CellTable};
+use cell_table::CellTable;
 use emu_io::{List, NoMemory};
 use id_arena::{Key, NetId};
 use module_bits::Context;
@@ -52,14 +51,6 @@ impl<'a> Setting<'a> {
         ensures { slice_get self.now.modules place ≡ Some result.now }
     {
         &self.modules[place as usize]
-    }
-
-    /// The cell of a name.
-    pub(crate) fn cell_named(&self, name: &[u8]) -> Option<&'a Cell>
-        ensures { option_copied result ≡ cell_named self.now name.now }
-    {
-        let id = self.cells.find(name)?;
-        Some(self.cells.cell(id))
     }
 
     /// The byte at which a token begins.
