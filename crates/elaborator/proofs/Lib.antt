@@ -1,15 +1,21 @@
-pub mod Built
-pub mod Counts
-pub mod Declared
-pub mod GoodParts
-pub mod Joining
-pub mod NoConstants
-pub mod OneReading
-pub mod OwnNames
-pub mod Paths
-pub mod Places
-pub mod PlainGates
-pub mod Refusals
-pub mod Sketches
-pub mod Stages
-pub mod Uses
+mod Joining
+mod Performing
+mod Items
+mod Gates
+mod Values
+mod Placing
+mod Naming
+mod Marking
+mod Tying
+mod Sharing
+mod Linking
+mod TwiceNamed
+mod Porting
+mod OwnNets
+mod Admitting
+mod Walking
+mod OfDrivers
+mod Whole
+mod CellPieces
+mod CellMemories
+mod CellTies

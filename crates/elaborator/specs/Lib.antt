@@ -1,4 +1,9 @@
-pub mod GateDesign
-pub mod GateNames
-pub mod GateParts
-pub mod GateSketch
+pub mod Outcomes
+pub mod Room
+pub mod Sockets
+pub mod Targets
+pub mod Ties
+pub mod Primitives
+pub mod Walk
+pub mod ReadyCells
+pub mod Top

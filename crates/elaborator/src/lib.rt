@@ -1,17 +1,29 @@
-//! From a Verilog text to the design that it describes.
+//! From the tree of a Verilog text and a table of cells to a design: hierarchy, vectors, assignments, supply
+//! nets, implicit wires, primitives and cells of all kinds.
 //!
-//! [`read_gates`] reads one module of `buf` and `not` gates, flat and without vectors, from the tree
-//! of its text. `specs/GateDesign.antt` says which trees describe which designs: what the module lists
-//! gives the names of its nets in their order, and these give the parts. [`trees_tell_designs_apart`]
-//! carries the law that no tree describes two designs, [`gate_designs_are_plain`] that gates are `buf`
-//! and `not` alone and that nothing constant is read.
+//! [`elaborate`] gives the design that the text describes, or exactly its first fault, as the crate
+//! `flattening` defines both. Each call below it does one step of that definition: it reads what the step
+//! reads, refuses at the first test that fails, and else puts the step's piece behind all that was made. The
+//! work is linear in what the text says and in what is made of it; nothing is made beyond a limit.
 #![tactic(auto)]
 
-mod fault;
-mod gate_design;
-mod gate_names;
-mod gate_parts;
-mod gate_sketch;
+mod assign;
+mod cells;
+mod entering;
+mod feeding;
+mod making;
+mod modules;
+mod primitive;
+mod room;
+mod setting;
+mod sockets;
+mod standing;
+mod supply;
+mod targets;
+mod ties;
+mod top;
+mod value;
+mod walk;
 
-pub use fault::ElabFault;
-pub use gate_design::{gate_designs_are_plain, read_gates, trees_tell_designs_apart};
+pub use flattening::ElabFault;
+pub use top::elaborate;

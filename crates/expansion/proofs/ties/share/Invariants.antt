@@ -1,5 +1,0 @@
-use Rattle.expansion.specs.Ties.{Shares}
-use Rattle.expansion.proofs.ties.share.Given as goal
-
-abbrev pub invariant-places : goal.invariant-places
-invariant-places l = Shares l.sockets l.place l.initial.ties l.ties
