@@ -1,4 +1,0 @@
-pub mod GateDesign
-pub mod GateNames
-pub mod GateParts
-pub mod GateSketch
