@@ -1,6 +1,6 @@
 //! A stand-in.
 
-ghost use Rattle.std.specs.Prelude.{◌×◌, ℕ, List, Ok, map, true};
+ghost use Rattle.std.specs.Prelude.{ℕ, List, Ok, map, true};
 ghost use Rattle.cell_table.specs.Table.{Stands};
 ghost use Rattle.flattening.specs.Stands.{Answers, given_by};
 ghost use Rattle.verilog_lex.specs.Reads.{Reads};

@@ -1,8 +1,10 @@
 -- Whether a design is plain, as it is asked of its lists, is whether it is.
-use Rattle.std.proofs.Common.{◌≡◌, ◌≢◌, ◌↔◌, ◌×◌, ℕ, Bool, true, false, IsTrue, List, [], ◌∷◌, ◌++◌, length, Some, slice_get, refl, sym, ap, subst, ◌∙◌, inl, inr, arith}
-use Rattle.std.specs.Prelude.{◌&&◌, ◌==◌, Contains, drop}
+use Rattle.std.proofs.Common.{◌≡◌, ◌≢◌, ◌↔◌, ℕ, Bool, true, false, IsTrue, List, [], ◌∷◌, ◌+◌, length, Some, slice_get, refl, sym, ap, subst, ◌∙◌, inl, inr, arith}
+use Rattle.std.specs.Prelude.{◌&&◌, ◌==◌, drop}
 use Rattle.std.specs.List.{list_all}
 use Rattle.std.proofs.lemmas.Bool.{and_from, and_parts}
+use Rattle.std.proofs.lemmas.List.{drop_more}
+use Rattle.std.proofs.lemmas.Option.{get_or_from_slice_get, slice_get_within}
 use Rattle.std.proofs.lemmas.List.Folds.{list_all-append}
 use Rattle.id_arena.specs.declared.keys.NetId.{NetId}
 use Rattle.design_core.specs.declared.element.Driver.{Driver}
@@ -23,6 +25,22 @@ use Rattle.facts.proofs.Places.{all_at, at_contains, contains_at}
 use Rattle.facts.proofs.Tests.{no, number_same}
 use Rattle.schedule_check.specs.Verdict.{moves}
 use Rattle.emu_app.specs.PlainDesign.{is_plain_design, is_plain_element, is_plain_op, is_plain_port, may_change}
+
+-- ## The elements, one by one
+
+-- an element that is there is the first of those from its place on
+from_place : {X : Type 0} (xs : List X) (k : ℕ) (x : X) → slice_get xs k ≡ Some x → drop k xs ≡ x ∷ drop (k + 1) xs
+from_place xs k x at = drop_more xs k x (slice_get_within xs k x at) ∙ ap (λ y. y ∷ drop (k + 1) xs) (get_or_from_slice_get xs k x x at)
+
+-- where it passes, the test of all from there on is that of all behind it
+pub test_goes_on : {X : Type 0} (test : X → Bool) (xs : List X) (k : ℕ) (x : X) → slice_get xs k ≡ Some x → test x ≡ true → list_all test (drop k xs) ≡ list_all test xs → list_all test (drop (k + 1) xs) ≡ list_all test xs
+test_goes_on test xs k x at passes so_far =
+    ap (λ b. b && list_all test (drop (k + 1) xs)) (sym passes) ∙ ap (list_all test) (sym (from_place xs k x at)) ∙ so_far
+
+-- where it fails, so does the test of all
+pub test_fails : {X : Type 0} (test : X → Bool) (xs : List X) (k : ℕ) (x : X) → slice_get xs k ≡ Some x → test x ≡ false → list_all test (drop k xs) ≡ list_all test xs → false ≡ list_all test xs
+test_fails test xs k x at fails so_far =
+    ap (λ b. b && list_all test (drop (k + 1) xs)) (sym fails) ∙ ap (list_all test) (sym (from_place xs k x at)) ∙ so_far
 
 no_constant : (d : Driver) → moves d ≡ true → (b : Bool) → d ≢ Constant b
 no_constant (Constant c) change b same = no change
@@ -102,20 +120,20 @@ output_ports_there p d = ports_pass (is_there (net_count p)) p.outputs (outputs_
 
 -- ## Designs
 
-no_memory : (memories : List Memory) → (length memories == 0) ≡ true → memories ≡ []
+no_memory : (memories : List Memory) → length memories ≡ 0 → memories ≡ []
 no_memory [] none = refl
-no_memory (m ∷ rest) none = no none
+no_memory (m ∷ rest) none = absurd (omega (arith, none))
 
 is_plain : (p : Parts) → IsDesign p → is_plain_design p ≡ true → IsPlain p
 is_plain p d is =
-    let elements : _ = and_parts (list_all (is_plain_element p) p.elements) ((length p.memories == 0) && list_all (is_plain_port p) p.outputs) is in
-    let others : _ = and_parts (length p.memories == 0) (list_all (is_plain_port p) p.outputs) elements.1 in
+    let both : _ = and_parts (list_all (is_plain_element p) p.elements && (length p.memories == 0)) (list_all (is_plain_port p) p.outputs) is in
+    let lists : _ = and_parts (list_all (is_plain_element p) p.elements) (length p.memories == 0) both.0 in
     record {
-      elements = λ k e at. to_plain p e (all_at (element_fits p) p.elements k e d.elements_fit at) (all_at (is_plain_element p) p.elements k e elements.0 at);
-      memories = no_memory p.memories others.0;
+      elements = λ k e at. to_plain p e (all_at (element_fits p) p.elements k e d.elements_fit at) (all_at (is_plain_element p) p.elements k e lists.0 at);
+      memories = no_memory p.memories (number_same (length p.memories) 0 lists.1);
       outputs = λ n among.
           let at : (k : ℕ) × (slice_get (port_bits p.outputs) k ≡ Some n) = at_contains (port_bits p.outputs) n among in
-          no_constant (driver p n.place) (all_at (may_change p) (port_bits p.outputs) at.0 n (bits_pass (may_change p) p.outputs others.1) at.1);
+          no_constant (driver p n.place) (all_at (may_change p) (port_bits p.outputs) at.0 n (bits_pass (may_change p) p.outputs both.1) at.1);
     }
 
 plain_is : (p : Parts) → IsPlain p → is_plain_design p ≡ true
@@ -123,8 +141,9 @@ plain_is p plain =
     let elements : list_all (is_plain_element p) p.elements ≡ true = all_from (is_plain_element p) p.elements (λ k e at. from_plain p e (plain.elements k e at)) in
     let none : (length p.memories == 0) ≡ true = subst (λ (ms : List Memory). (length ms == 0) ≡ true) (sym plain.memories) refl in
     let bits : list_all (may_change p) (port_bits p.outputs) ≡ true = all_from (may_change p) (port_bits p.outputs) (λ k n at. changes (driver p n.place) (plain.outputs n (contains_at (port_bits p.outputs) k n at))) in
-    and_from (list_all (is_plain_element p) p.elements) ((length p.memories == 0) && list_all (is_plain_port p) p.outputs) elements
-    (and_from (length p.memories == 0) (list_all (is_plain_port p) p.outputs) none (ports_pass (may_change p) p.outputs bits))
+    and_from (list_all (is_plain_element p) p.elements && (length p.memories == 0)) (list_all (is_plain_port p) p.outputs)
+    (and_from (list_all (is_plain_element p) p.elements) (length p.memories == 0) elements none)
+    (ports_pass (may_change p) p.outputs bits)
 
 pub plain_design : (p : Parts) (answer : Bool) → IsDesign p → answer ≡ is_plain_design p → IsTrue answer ↔ IsPlain p
 plain_design p answer d same = (λ yes. is_plain p d (sym same ∙ yes), λ plain. same ∙ plain_is p plain)

@@ -5,7 +5,7 @@ ghost use Rattle.std.specs.List.{list_all};
 ghost use Rattle.design_core.specs.Design.{element_reads, net_count};
 ghost use Rattle.design_core.specs.Faults.{are_there, ports_there};
 ghost use Rattle.design_core.specs.Plain.{IsPlain};
-ghost use Rattle.emu_app.specs.PlainDesign.{is_plain_element, is_plain_op, is_plain_port, may_change};
+ghost use Rattle.emu_app.specs.PlainDesign.{is_plain_design, is_plain_element, is_plain_op, is_plain_port, may_change};
 
 use design_core::{Design, Driver, Element, Op, Port};
 use id_arena::{ElemId, Key, NetId};
@@ -13,6 +13,14 @@ use id_arena::{ElemId, Key, NetId};
 /// Whether a design has buffers and inverters alone, and shows no constant.
 pub fn is_plain(design: &Design) -> bool
     ensures { IsTrue result ↔ IsPlain design.now }
+{
+    design.stands();
+    lists_are_plain(design)
+}
+
+/// The same, asked of the design's lists one by one.
+fn lists_are_plain(design: &Design) -> bool
+    ensures { result ≡ is_plain_design design.now }
 {
     design.stands();
     elements_are_plain(design)
