@@ -28,6 +28,11 @@ pub fn elaborate(
     requires cells { (bytes : List ℕ) × Stands bytes (Ok cells.now) }
     ensures { Answers (given_by source.now tokens.now tree.now cells.now) top.now result }
 {
-    let _ = (alloc, source, tokens, tree, cells, top);
+    let _alloc = alloc;
+    let _source = source;
+    let _tokens = tokens;
+    let _tree = tree;
+    let _cells = cells;
+    let _top = top;
     Err(ElabFault::NoMemory)
 }

@@ -1,5 +1,5 @@
 -- The first text that is refused, from what is known of the texts before it.
-use Rattle.std.proofs.Common.{ℕ, ◌≡◌, ◌<◌, ◌≤◌, ◌^◌, List, [], length, Ok, Err, sym, subst, arith, lit<}
+use Rattle.std.proofs.Common.{ℕ, ◌≡◌, ◌<◌, ◌≤◌, ◌^◌, List, [], length, Ok, Err, sym, ap, subst, arith, lit<}
 use Rattle.design_core.specs.declared.parts.Parts.{Parts}
 use Rattle.design_core.specs.Dependency.{IsRanked}
 use Rattle.design_core.specs.Plain.{IsPlain}
@@ -149,6 +149,24 @@ refused_board T law command top texts unread.NoMemory means reads earlier = tt
 
 -- ## Groups
 
+-- every command takes a plain design
+pub takes_plain : (command : Command) (p : Parts) → IsPlain p → TakesDesign command p
+takes_plain Check p plain = plain
+takes_plain Settle p plain = tt
+takes_plain Replay p plain = plain
+
+-- every command reads groups
+pub reads_groups : (command : Command) → Reads command Groups
+reads_groups Check = omega arith
+reads_groups Settle = omega arith
+reads_groups Replay = omega arith
+
+-- groups that are counted are some
+pub some_groups : (v : InputGroups) (count : ℕ) → count ≡ length v.groups → 0 < count → v.groups ≡ [] → ⊥
+some_groups v count same more none =
+    let nothing : length v.groups ≡ 0 = ap length none in
+    omega (arith, same, more, nothing)
+
 -- the text of cells of a design is a table
 pub has_cells : (top : List ℕ) (texts : Texts) (p : Parts) → SaysDesign top texts p → HasCells (texts Cells)
 has_cells top texts p says = record { cells = says.cells; stands = says.cells_are }
@@ -229,12 +247,6 @@ module _ (apart : EachTextHasOneDesign) (grouped : groups.EachTextHasOneAnswer) 
   refused_events T law p v unread.NoMemory means design says reads earlier = tt
 
 -- ## The texts before each
-
--- every command takes a plain design
-takes_plain : (command : Command) (p : Parts) → IsPlain p → TakesDesign command p
-takes_plain Check p plain = plain
-takes_plain Settle p plain = tt
-takes_plain Replay p plain = plain
 
 -- every command takes no groups
 no_groups_taken : (command : Command) (v : InputGroups) → v.groups ≡ [] → TakesGroups command v

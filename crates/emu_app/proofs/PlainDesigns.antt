@@ -1,11 +1,11 @@
 -- Whether a design is plain, as it is asked of its lists, is whether it is.
 use Rattle.std.proofs.Common.{◌≡◌, ◌≢◌, ◌↔◌, ℕ, Bool, true, false, IsTrue, List, [], ◌∷◌, ◌+◌, length, Some, slice_get, refl, sym, ap, subst, ◌∙◌, inl, inr, arith}
-use Rattle.std.specs.Prelude.{◌&&◌, ◌==◌, drop}
-use Rattle.std.specs.List.{list_all}
-use Rattle.std.proofs.lemmas.Bool.{and_from, and_parts}
+use Rattle.std.specs.Prelude.{◌&&◌, ◌==◌, ◌++◌, drop, flat_map}
+use Rattle.std.specs.List.{list_all, list_any}
+use Rattle.std.proofs.lemmas.Bool.{and_from, and_parts, or_right}
 use Rattle.std.proofs.lemmas.List.{drop_more}
 use Rattle.std.proofs.lemmas.Option.{get_or_from_slice_get, slice_get_within}
-use Rattle.std.proofs.lemmas.List.Folds.{list_all-append}
+use Rattle.std.proofs.lemmas.List.Folds.{list_all-append, list_any-append}
 use Rattle.id_arena.specs.declared.keys.NetId.{NetId}
 use Rattle.design_core.specs.declared.element.Driver.{Driver}
 use Rattle.design_core.specs.declared.element.Driver.TheVariants.{Constant, Input, Elem, Read}
@@ -16,13 +16,14 @@ use Rattle.design_core.specs.declared.operation.Op.{Op}
 use Rattle.design_core.specs.declared.operation.Op.TheVariants.{And, Nand, Or, Nor, Xor, Xnor, Buf, Not, Table}
 use Rattle.design_core.specs.declared.parts.Parts.{Parts}
 use Rattle.design_core.specs.declared.parts.Port.{Port}
-use Rattle.design_core.specs.Design.{IsDesign, driver, element_fits, net_count, op_fits, port_bits}
+use Rattle.design_core.specs.Design.{IsDesign, driver, element_fits, element_reads, includes, is_net, memory_reads, net_count, nets_read, op_fits, port_bits}
 use Rattle.design_core.specs.Faults.{is_there, ports_there}
 use Rattle.design_core.specs.Plain.{IsNoConstant, IsPlain, IsPlainElement, IsPlainOp}
 use Rattle.design_core.proofs.Goodness.{all_from}
-use Rattle.event_replay.proofs.OutputBits.{outputs_there}
+use Rattle.facts.proofs.Lists.{any_at}
 use Rattle.facts.proofs.Places.{all_at, at_contains, contains_at}
-use Rattle.facts.proofs.Tests.{no, number_same}
+use Rattle.facts.proofs.Tests.{no, number_same, same_number}
+use Rattle.settled_model.proofs.Ranges.{there}
 use Rattle.schedule_check.specs.Verdict.{moves}
 use Rattle.emu_app.specs.PlainDesign.{is_plain_design, is_plain_element, is_plain_op, is_plain_port, may_change}
 
@@ -114,9 +115,19 @@ ports_pass test (port ∷ ports) all =
     let both : (list_all test port.nets ≡ true) × (list_all test (port_bits ports) ≡ true) = and_parts (list_all test port.nets) (list_all test (port_bits ports)) (sym (list_all-append test port.nets (port_bits ports)) ∙ all) in
     and_from (list_all test port.nets) (list_all (λ (q : Port). list_all test q.nets) ports) both.0 (ports_pass test ports both.1)
 
--- the bits of the output ports of a design are nets of it
+-- a design reads each bit of its output ports
+output_read : (p : Parts) (k : ℕ) (n : NetId) → slice_get (port_bits p.outputs) k ≡ Some n → includes (nets_read p) n.place ≡ true
+output_read p k n at =
+    let inner : List NetId = flat_map element_reads p.elements ++ flat_map memory_reads p.memories in
+    list_any-append (is_net n.place) inner (port_bits p.outputs)
+    ∙ or_right (list_any (is_net n.place) inner) (list_any (is_net n.place) (port_bits p.outputs))
+    (any_at (is_net n.place) (port_bits p.outputs) k n at (same_number n.place n.place refl))
+
+-- so they are nets of it
 pub output_ports_there : (p : Parts) → IsDesign p → IsTrue (ports_there (net_count p) p.outputs)
-output_ports_there p d = ports_pass (is_there (net_count p)) p.outputs (outputs_there p (net_count p) d refl)
+output_ports_there p d =
+    ports_pass (is_there (net_count p)) p.outputs
+    (all_from (is_there (net_count p)) (port_bits p.outputs) (λ k n at. there p n (d.driven n.place (output_read p k n at)).0))
 
 -- ## Designs
 
