@@ -39,8 +39,8 @@ def design(count, comment):
 
 
 def long_design(size):
-    """A chain of about so many bytes, one gate a line with a comment, and an `and` at its end."""
-    parts = ["module t(a,y); input a; output y;\n"]
+    """A chain of about so many bytes, one gate a line with a comment, in a module that is not the top."""
+    parts = ["module s(a,y); input a; output y;\n"]
     length = len(parts[0])
     count = 0
     while length < size - 120:
@@ -48,7 +48,7 @@ def long_design(size):
         parts.append(line)
         length += len(line)
         count += 1
-    return "".join(parts) + "  and(y, a, a);\nendmodule\n"
+    return "".join(parts) + "  not(y, a);\nendmodule\n"
 
 
 def net(k, count):
@@ -144,7 +144,7 @@ def read_rows(folder, plain):
     one = texts(1)
     for size in (1 << 20, 8 << 20, (64 << 20) - 64):
         text = long_design(size)
-        compare(folder, "check", f"read {len(text)} bytes", [text] + one[1:], "refused design NotYet\n", plain)
+        compare(folder, "check", f"read {len(text)} bytes", [text] + one[1:], "refused design NoTop\n", plain)
 
 
 def check_rows(folder, plain):

@@ -728,6 +728,10 @@ fn main() {
     let Some(list) = tokens(&texts[0]) else { refuse("design") };
     let mut cursor = Cursor { text: &texts[0], tokens: &list, at: 0 };
     let Some(module) = module(&mut cursor) else { refuse("design") };
+    if cursor.bytes(module.name) != top.as_bytes() {
+        println!("refused design NoTop");
+        exit(2)
+    }
     let Some(design) = flatten(&cursor, &module, top.as_bytes()) else { refuse("design") };
     let drives = |net: u32| match design.drivers[net as usize] {
         Driver::Gate(k) => Some(k),

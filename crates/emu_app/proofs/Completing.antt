@@ -15,12 +15,13 @@ use Rattle.emu_app.specs.declared.what.What.TheVariants.{Design, Cells, Groups, 
 use Rattle.emu_app.specs.What.{limit, order}
 use Rattle.emu_app.specs.Command.{CommandWords, IsCommand, Reads, command_word, name_of}
 use Rattle.emu_app.specs.Fetching.{Texts, AreHeld, IsHeld, FirstTooLarge, NotThere, FetchFailed}
-use Rattle.emu_app.specs.Forms.{HasCells, SaysBoard, SaysDesign, SaysGroups, SaysNetlist, SaysOpening, SaysShortSchedule}
+use Rattle.emu_app.specs.Forms.{SaysBoard, SaysGroups, SaysNetlist, SaysOpening, SaysShortSchedule}
 use Rattle.emu_app.specs.Printing.{status_of}
 use Rattle.emu_app.specs.Reading.{AreRead, BoardSays, Refuses, RefusedTextsStandForNothing, ResultsSay, StandFor}
 use Rattle.emu_app.specs.Runs.{CanReplay, DesignSays, RecordingSays}
 use Rattle.emu_app.specs.declared.recording.Recording.{Recording}
 use Rattle.design_core.specs.declared.parts.Parts.{Parts}
+use Rattle.flattening.specs.Stands.{Stands}
 use Rattle.domain_groups.specs.Events.{SaysEvents}
 use Rattle.domain_groups.specs.Groups.{InputGroups}
 use Rattle.emu_app.specs.Answers.{CommandMeans, Ends, HeldMeans, IsTraced, Prints, WorkMeans}
@@ -82,8 +83,7 @@ AreSame command a b = (what : What) → Reads command what → a what ≡ b what
 pub first_too : (command : Command) (top : List ℕ) (a b : Texts) (p : Parts) (v : InputGroups) → a Design ≡ b Design → a Cells ≡ b Cells → a Groups ≡ b Groups → DesignSays top a p v → DesignSays top b p v
 first_too command top a b p v design cells groups says =
     record {
-      design = subst (λ t. SaysDesign top t p) design says.design;
-      cells = subst HasCells cells says.cells;
+      design = subst (λ t. Stands t (b Cells) top p) design (subst (λ t. Stands (a Design) t top p) cells says.design);
       ranked = says.ranked;
       groups = subst (λ t. SaysGroups p t v) groups says.groups;
     }
@@ -102,6 +102,7 @@ module _ (top : List ℕ) (a b : Texts) (same : (what : What) → order what < 7
           plain = record {
             groups = board.plain.groups;
             first = first_too Check top a b s.design board.plain.groups (same Design (omega arith)) (same Cells (omega arith)) (same Groups (omega arith)) board.plain.first;
+            plain = board.plain.plain;
             none = board.plain.none;
           };
           board = subst (λ t. SaysBoard t s.chip) (same Board (omega arith)) board.board;

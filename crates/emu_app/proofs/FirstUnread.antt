@@ -1,16 +1,20 @@
 -- The first text that is refused, from what is known of the texts before it.
-use Rattle.std.proofs.Common.{ℕ, ◌≡◌, ◌<◌, ◌≤◌, ◌^◌, List, [], length, Err, sym, subst, arith, lit<}
+use Rattle.std.proofs.Common.{ℕ, ◌≡◌, ◌<◌, ◌≤◌, ◌^◌, List, [], length, Ok, Err, sym, ap, subst, arith, lit<}
 use Rattle.design_core.specs.declared.parts.Parts.{Parts}
 use Rattle.design_core.specs.Dependency.{IsRanked}
+use Rattle.design_core.specs.Plain.{IsPlain}
+use Rattle.cell_table.specs.declared.cell.Cell.{Cell}
+use Rattle.cell_table.specs.Table.{Stands}
+use Rattle.verilog_lex.specs.declared.token.Token.{Token}
+use Rattle.verilog_tree.specs.declared.source.Source.{Source}
 use Rattle.board_model.specs.Answers as boards
 use Rattle.domain_groups.specs.Answers as groups
 use Rattle.domain_groups.specs.Events.{EachRecordingHasOneAnswer}
 use Rattle.domain_groups.specs.Groups.{InputGroups}
 use Rattle.domain_groups.specs.Openings.{EachOpeningHasOneAnswer}
 use Rattle.settled_model.specs.declared.opening.Opening as opened
-use Rattle.verilog_lex.specs.Reads as reading
-use Rattle.verilog_tree.specs.Laws.{HasOneTree}
-use Rattle.elaborator.specs.GateDesign as designs
+use Rattle.flattening.specs.Laws.{EachTextHasOneDesign}
+use Rattle.flattening.specs.Stands.{given_by}
 use Rattle.emu_machine.specs.declared.netlist.Chip.{Chip}
 use Rattle.emu_machine.specs.declared.schedule.Schedule.{Schedule}
 use Rattle.emu_machine.specs.Results.{Results}
@@ -25,8 +29,9 @@ use Rattle.emu_app.specs.declared.refusal.Unread.TheVariants as unread
 use Rattle.emu_app.specs.Command.{Judges, Reads}
 use Rattle.emu_app.specs.What.{order, limit}
 use Rattle.emu_app.specs.Fetching.{Texts, AreWithin}
-use Rattle.emu_app.specs.Forms.{HasCells, HasTree, SaysDesign, SaysGroups, SaysNetlist, SaysOpening, SaysShortSchedule}
-use Rattle.emu_app.specs.Reading.{AllMean, BoardMeans, BoardSays, CellsMean, DesignMeans, EarlierAreRead, EventsAreFaulty, EventsMean, FirstSay, FirstUnread, GroupsAreFaulty, GroupsMean, HasSomeGroups, IsRead, Means, NoneSaid, NotYetMeans, OfDesign, OpeningIsFaulty, OpeningMeans, PlainSays, ResultsSay, TakesGroups, TreeMeans}
+use Rattle.emu_app.specs.Forms.{HasCells, HasTree, IsTreeOf, SaysDesign, SaysGroups, SaysNetlist, SaysOpening, SaysShortSchedule}
+use Rattle.emu_app.specs.Reading.{AllMean, BoardMeans, BoardSays, CellsMean, DesignMeans, EarlierAreRead, EventsAreFaulty, EventsMean, FirstUnread, GroupsAreFaulty, GroupsMean, HasSomeGroups, IsRead, Means, NoneSaid, NotYetMeans, OfDesign, OpeningIsFaulty, OpeningMeans, PlainSays, ResultsSay, TakesDesign, TakesGroups, TreeMeans}
+use Rattle.emu_app.specs.Cycles.{RankMeans}
 use Rattle.emu_app.specs.Runs.{DesignSays}
 use Rattle.emu_app.proofs.Readings.{no_board, no_chip}
 use Rattle.emu_app.proofs.Recordings.{events_unread, groups_unread, opening_unread, some_unread}
@@ -57,6 +62,7 @@ refused_as S T command top texts what (unread.Refused (refusal.NotYet other)) me
     subst (NotYetMeans command top texts) (sym means.0) (first (record { reads = reads; later = later; here = none means.1; earlier = earlier }))
 refused_as S T command top texts what (unread.Refused (refusal.Faulty fault)) means first reads later none earlier = absurd means
 refused_as S T command top texts what (unread.Refused (refusal.Cells fault)) means first reads later none earlier = absurd means
+refused_as S T command top texts what (unread.Refused (refusal.Design fault)) means first reads later none earlier = absurd means
 refused_as S T command top texts what (unread.Refused (refusal.Board fault)) means first reads later none earlier = absurd means
 refused_as S T command top texts what (unread.Refused (refusal.Cycle names)) means first reads later none earlier = absurd means
 refused_as S T command top texts what (unread.Refused (refusal.Groups fault)) means first reads later none earlier = absurd means
@@ -68,6 +74,7 @@ refused_as S T command top texts what unread.NoMemory means first reads later no
 pub refused_tree : {Y : Type 0} (T : Y → Type 0) (command : Command) (top : List ℕ) (texts : Texts) (why : Unread) → TreeMeans (texts Design) (Err why) → AllMean command top texts T (Err why)
 refused_tree T command top texts (unread.Refused (refusal.Faulty fault)) means = means
 refused_tree T command top texts (unread.Refused (refusal.Cells fault)) means = absurd means
+refused_tree T command top texts (unread.Refused (refusal.Design fault)) means = absurd means
 refused_tree T command top texts (unread.Refused (refusal.Board fault)) means = absurd means
 refused_tree T command top texts (unread.Refused (refusal.Cycle names)) means = absurd means
 refused_tree T command top texts (unread.Refused (refusal.Groups fault)) means = absurd means
@@ -80,6 +87,7 @@ refused_tree T command top texts unread.NoMemory means = tt
 pub refused_cells : {Y : Type 0} (T : Y → Type 0) (command : Command) (top : List ℕ) (texts : Texts) (why : Unread) → HasTree (texts Design) → CellsMean (texts Cells) (Err why) → AllMean command top texts T (Err why)
 refused_cells T command top texts (unread.Refused (refusal.Cells fault)) tree means = (tree, means)
 refused_cells T command top texts (unread.Refused (refusal.Faulty fault)) tree means = absurd means
+refused_cells T command top texts (unread.Refused (refusal.Design fault)) tree means = absurd means
 refused_cells T command top texts (unread.Refused (refusal.Board fault)) tree means = absurd means
 refused_cells T command top texts (unread.Refused (refusal.Cycle names)) tree means = absurd means
 refused_cells T command top texts (unread.Refused (refusal.Groups fault)) tree means = absurd means
@@ -89,16 +97,38 @@ refused_cells T command top texts (unread.Refused (refusal.NotYet what)) tree me
 refused_cells T command top texts unread.NoMemory tree means = tt
 
 -- a tree is refused where the cells are read
-pub refused_design : {Y : Type 0} (T : Y → Type 0) (command : Command) (top : List ℕ) (texts : Texts) (why : Unread) → HasCells (texts Cells) → DesignMeans top (texts Design) (Err why) → AllMean command top texts T (Err why)
-refused_design T command top texts (unread.Refused (refusal.NotYet what)) cells means = subst (NotYetMeans command top texts) (sym means.0) (cells, record { parsed = means.1; none = means.2 })
-refused_design T command top texts (unread.Refused (refusal.Faulty fault)) cells means = absurd means
-refused_design T command top texts (unread.Refused (refusal.Cells fault)) cells means = absurd means
-refused_design T command top texts (unread.Refused (refusal.Board fault)) cells means = absurd means
-refused_design T command top texts (unread.Refused (refusal.Cycle names)) cells means = absurd means
-refused_design T command top texts (unread.Refused (refusal.Groups fault)) cells means = absurd means
-refused_design T command top texts (unread.Refused (refusal.Opening fault)) cells means = absurd means
-refused_design T command top texts (unread.Refused (refusal.Events fault)) cells means = absurd means
-refused_design T command top texts unread.NoMemory cells means = tt
+pub refused_design : {Y : Type 0} (T : Y → Type 0) (command : Command) (top : List ℕ) (texts : Texts) (tokens : List Token) (tree : Source) (cells : List Cell) (why : Unread)
+    → IsTreeOf (texts Design) tokens tree → Stands (texts Cells) (Ok cells) → DesignMeans (given_by (texts Design) tokens tree cells) top (Err why) → AllMean command top texts T (Err why)
+refused_design T command top texts tokens tree cells (unread.Refused (refusal.Design fault)) is table means =
+    record { tokens = tokens; tree = tree; cells = cells; is_tree = is; is_table = table; answers = means }
+refused_design T command top texts tokens tree cells (unread.Refused (refusal.Faulty fault)) is table means = absurd means
+refused_design T command top texts tokens tree cells (unread.Refused (refusal.Cells fault)) is table means = absurd means
+refused_design T command top texts tokens tree cells (unread.Refused (refusal.Board fault)) is table means = absurd means
+refused_design T command top texts tokens tree cells (unread.Refused (refusal.Cycle names)) is table means = absurd means
+refused_design T command top texts tokens tree cells (unread.Refused (refusal.Groups fault)) is table means = absurd means
+refused_design T command top texts tokens tree cells (unread.Refused (refusal.Opening fault)) is table means = absurd means
+refused_design T command top texts tokens tree cells (unread.Refused (refusal.Events fault)) is table means = absurd means
+refused_design T command top texts tokens tree cells (unread.Refused (refusal.NotYet what)) is table means = absurd means
+refused_design T command top texts tokens tree cells unread.NoMemory is table means = tt
+
+-- what is flattened is the design that the texts say
+pub says_design : (top : List ℕ) (texts : Texts) (tokens : List Token) (tree : Source) (cells : List Cell) (p : Parts)
+    → IsTreeOf (texts Design) tokens tree → Stands (texts Cells) (Ok cells) → DesignMeans (given_by (texts Design) tokens tree cells) top (Ok p) → SaysDesign top texts p
+says_design top texts tokens tree cells p is table means =
+    record { tokens = tokens; tree = tree; cells = cells; tokens_are = is.are_tokens; tree_is = is.explains; cells_are = table; describes = means }
+
+-- a design that is ranked is refused where it has a cycle
+pub refused_rank : {Y : Type 0} (T : Y → Type 0) (command : Command) (top : List ℕ) (texts : Texts) (p : Parts) (why : Unread) → SaysDesign top texts p → RankMeans p (Err why) → AllMean command top texts T (Err why)
+refused_rank T command top texts p (unread.Refused (refusal.Cycle names)) says means = record { design = p; says = says; holds = means }
+refused_rank T command top texts p (unread.Refused (refusal.Faulty fault)) says means = absurd means
+refused_rank T command top texts p (unread.Refused (refusal.Cells fault)) says means = absurd means
+refused_rank T command top texts p (unread.Refused (refusal.Design fault)) says means = absurd means
+refused_rank T command top texts p (unread.Refused (refusal.Board fault)) says means = absurd means
+refused_rank T command top texts p (unread.Refused (refusal.Groups fault)) says means = absurd means
+refused_rank T command top texts p (unread.Refused (refusal.Opening fault)) says means = absurd means
+refused_rank T command top texts p (unread.Refused (refusal.Events fault)) says means = absurd means
+refused_rank T command top texts p (unread.Refused (refusal.NotYet what)) says means = absurd means
+refused_rank T command top texts p unread.NoMemory says means = tt
 
 -- a board is refused where all before it are read: it has a fault, or it is not of one chip without wires
 pub refused_board : {Y : Type 0} (T : Y → Type 0) → boards.EachTextHasOneAnswer → (command : Command) (top : List ℕ) (texts : Texts) (why : Unread)
@@ -110,6 +140,7 @@ refused_board T law command top texts (unread.Refused (refusal.NotYet what)) mea
     (means.1, record { reads = reads; later = omega arith; here = λ read. no_chip law (texts Board) means.1 read.0 read.1; earlier = earlier })
 refused_board T law command top texts (unread.Refused (refusal.Faulty fault)) means reads earlier = absurd means
 refused_board T law command top texts (unread.Refused (refusal.Cells fault)) means reads earlier = absurd means
+refused_board T law command top texts (unread.Refused (refusal.Design fault)) means reads earlier = absurd means
 refused_board T law command top texts (unread.Refused (refusal.Cycle names)) means reads earlier = absurd means
 refused_board T law command top texts (unread.Refused (refusal.Groups fault)) means reads earlier = absurd means
 refused_board T law command top texts (unread.Refused (refusal.Opening fault)) means reads earlier = absurd means
@@ -118,10 +149,32 @@ refused_board T law command top texts unread.NoMemory means reads earlier = tt
 
 -- ## Groups
 
-module _ (command : Command) (top : List ℕ) (texts : Texts) (p : Parts) (first : FirstSay top texts p) (ranked : IsRanked p) where
+-- every command takes a plain design
+pub takes_plain : (command : Command) (p : Parts) → IsPlain p → TakesDesign command p
+takes_plain Check p plain = plain
+takes_plain Settle p plain = tt
+takes_plain Replay p plain = plain
+
+-- every command reads groups
+pub reads_groups : (command : Command) → Reads command Groups
+reads_groups Check = omega arith
+reads_groups Settle = omega arith
+reads_groups Replay = omega arith
+
+-- groups that are counted are some
+pub some_groups : (v : InputGroups) (count : ℕ) → count ≡ length v.groups → 0 < count → v.groups ≡ [] → ⊥
+some_groups v count same more none =
+    let nothing : length v.groups ≡ 0 = ap length none in
+    omega (arith, same, more, nothing)
+
+-- the text of cells of a design is a table
+pub has_cells : (top : List ℕ) (texts : Texts) (p : Parts) → SaysDesign top texts p → HasCells (texts Cells)
+has_cells top texts p says = record { cells = says.cells; stands = says.cells_are }
+
+module _ (command : Command) (top : List ℕ) (texts : Texts) (p : Parts) (says : SaysDesign top texts p) (ranked : IsRanked p) (takes : TakesDesign command p) where
   pub before_groups : EarlierAreRead command top texts Groups
-  before_groups Design reads early = (p, first.design, ranked)
-  before_groups Cells reads early = first.cells
+  before_groups Design reads early = (p, says, ranked, takes)
+  before_groups Cells reads early = has_cells top texts p says
   before_groups Groups reads early = absurd (omega (arith, early))
   before_groups Board reads early = absurd (omega (arith, early))
   before_groups Netlist reads early = absurd (omega (arith, early))
@@ -130,15 +183,16 @@ module _ (command : Command) (top : List ℕ) (texts : Texts) (p : Parts) (first
   before_groups Opening reads early = absurd (omega (arith, early))
   before_groups Events reads early = absurd (omega (arith, early))
 
-module _ (lexed : reading.EachTextHasOneAnswer) (trees : HasOneTree) (apart : designs.TreesTellDesignsApart) (grouped : groups.EachTextHasOneAnswer) (command : Command) (top : List ℕ) (texts : Texts) where
+module _ (apart : EachTextHasOneDesign) (grouped : groups.EachTextHasOneAnswer) (command : Command) (top : List ℕ) (texts : Texts) where
   -- groups are refused where all before them are read
   pub refused_groups : {Y : Type 0} (T : Y → Type 0) (p : Parts) (why : Unread)
-      → GroupsMean p (texts Groups) (Err why) → SaysDesign top (texts Design) p → Reads command Groups → EarlierAreRead command top texts Groups → AllMean command top texts T (Err why)
+      → GroupsMean p (texts Groups) (Err why) → SaysDesign top texts p → Reads command Groups → EarlierAreRead command top texts Groups → AllMean command top texts T (Err why)
   refused_groups T p (unread.Refused (refusal.Groups fault)) means design reads earlier =
       let faulty : GroupsAreFaulty top texts fault = record { design = p; says = design; holds = means } in
-      (faulty, record { reads = reads; later = omega arith; here = groups_unread lexed trees apart grouped top texts command fault faulty; earlier = earlier })
+      (faulty, record { reads = reads; later = omega arith; here = groups_unread apart grouped top texts command fault faulty; earlier = earlier })
   refused_groups T p (unread.Refused (refusal.Faulty fault)) means design reads earlier = absurd means
   refused_groups T p (unread.Refused (refusal.Cells fault)) means design reads earlier = absurd means
+  refused_groups T p (unread.Refused (refusal.Design fault)) means design reads earlier = absurd means
   refused_groups T p (unread.Refused (refusal.Cycle names)) means design reads earlier = absurd means
   refused_groups T p (unread.Refused (refusal.Board fault)) means design reads earlier = absurd means
   refused_groups T p (unread.Refused (refusal.Opening fault)) means design reads earlier = absurd means
@@ -153,20 +207,21 @@ module _ (lexed : reading.EachTextHasOneAnswer) (trees : HasOneTree) (apart : de
   takes_none Replay judges v takes = takes
 
   -- some are refused by it where all before them are read
-  pub refused_some : (p : Parts) (v : InputGroups) → Judges command → SaysDesign top (texts Design) p → SaysGroups p (texts Groups) v → (v.groups ≡ [] → ⊥) → Reads command Groups → EarlierAreRead command top texts Groups
+  pub refused_some : (p : Parts) (v : InputGroups) → Judges command → SaysDesign top texts p → SaysGroups p (texts Groups) v → (v.groups ≡ [] → ⊥) → Reads command Groups → EarlierAreRead command top texts Groups
       → NotYetMeans command top texts Groups
   refused_some p v judges design says never reads earlier =
       let some : OfDesign top texts (HasSomeGroups texts) = record { design = p; says = design; holds = (v, says, never) } in
-      (some, record { reads = reads; later = omega arith; here = some_unread lexed trees apart grouped top texts command (takes_none command judges) some; earlier = earlier })
+      (some, record { reads = reads; later = omega arith; here = some_unread apart grouped top texts command (takes_none command judges) some; earlier = earlier })
 
   -- an opening is refused where all before it are read
   pub refused_opening : {Y : Type 0} (T : Y → Type 0) → EachOpeningHasOneAnswer → (p : Parts) (why : Unread)
-      → OpeningMeans p (texts Opening) (Err why) → SaysDesign top (texts Design) p → Reads command Opening → EarlierAreRead command top texts Opening → AllMean command top texts T (Err why)
+      → OpeningMeans p (texts Opening) (Err why) → SaysDesign top texts p → Reads command Opening → EarlierAreRead command top texts Opening → AllMean command top texts T (Err why)
   refused_opening T law p (unread.Refused (refusal.Opening fault)) means design reads earlier =
       let faulty : OpeningIsFaulty top texts fault = record { design = p; says = design; holds = means } in
-      (faulty, record { reads = reads; later = omega arith; here = opening_unread lexed trees apart grouped top texts law command fault faulty; earlier = earlier })
+      (faulty, record { reads = reads; later = omega arith; here = opening_unread apart grouped top texts law command fault faulty; earlier = earlier })
   refused_opening T law p (unread.Refused (refusal.Faulty fault)) means design reads earlier = absurd means
   refused_opening T law p (unread.Refused (refusal.Cells fault)) means design reads earlier = absurd means
+  refused_opening T law p (unread.Refused (refusal.Design fault)) means design reads earlier = absurd means
   refused_opening T law p (unread.Refused (refusal.Cycle names)) means design reads earlier = absurd means
   refused_opening T law p (unread.Refused (refusal.Groups fault)) means design reads earlier = absurd means
   refused_opening T law p (unread.Refused (refusal.Board fault)) means design reads earlier = absurd means
@@ -176,13 +231,14 @@ module _ (lexed : reading.EachTextHasOneAnswer) (trees : HasOneTree) (apart : de
 
   -- so are events
   pub refused_events : {Y : Type 0} (T : Y → Type 0) → EachRecordingHasOneAnswer → (p : Parts) (v : InputGroups) (why : Unread)
-      → EventsMean v p (texts Events) (Err why) → SaysDesign top (texts Design) p → SaysGroups p (texts Groups) v → Reads command Events → EarlierAreRead command top texts Events
+      → EventsMean v p (texts Events) (Err why) → SaysDesign top texts p → SaysGroups p (texts Groups) v → Reads command Events → EarlierAreRead command top texts Events
       → AllMean command top texts T (Err why)
   refused_events T law p v (unread.Refused (refusal.Events fault)) means design says reads earlier =
       let faulty : EventsAreFaulty top texts fault = record { design = p; says = design; holds = (v, says, means) } in
-      (faulty, record { reads = reads; later = omega arith; here = events_unread lexed trees apart grouped top texts law command fault faulty; earlier = earlier })
+      (faulty, record { reads = reads; later = omega arith; here = events_unread apart grouped top texts law command fault faulty; earlier = earlier })
   refused_events T law p v (unread.Refused (refusal.Faulty fault)) means design says reads earlier = absurd means
   refused_events T law p v (unread.Refused (refusal.Cells fault)) means design says reads earlier = absurd means
+  refused_events T law p v (unread.Refused (refusal.Design fault)) means design says reads earlier = absurd means
   refused_events T law p v (unread.Refused (refusal.Cycle names)) means design says reads earlier = absurd means
   refused_events T law p v (unread.Refused (refusal.Groups fault)) means design says reads earlier = absurd means
   refused_events T law p v (unread.Refused (refusal.Board fault)) means design says reads earlier = absurd means
@@ -203,8 +259,8 @@ module _ (command : Command) (top : List ℕ) (texts : Texts) (p : Parts) (says 
   plain_groups = record { design = p; says = says.first.design; holds = (says.groups, says.first.groups, no_groups_taken command says.groups says.none) }
 
   pub before_board : EarlierAreRead command top texts Board
-  before_board Design reads early = (p, says.first.design, says.first.ranked)
-  before_board Cells reads early = says.first.cells
+  before_board Design reads early = (p, says.first.design, says.first.ranked, takes_plain command p says.plain)
+  before_board Cells reads early = has_cells top texts p says.first.design
   before_board Groups reads early = plain_groups
   before_board Board reads early = absurd (omega (arith, early))
   before_board Netlist reads early = absurd (omega (arith, early))
@@ -261,8 +317,8 @@ before_opening top texts p one results board say Events reads early = absurd (om
 
 -- one of the original comes behind its groups, which may be any
 pub before_settling : (top : List ℕ) (texts : Texts) (p : Parts) (v : InputGroups) → DesignSays top texts p v → EarlierAreRead Settle top texts Opening
-before_settling top texts p v says Design reads early = (p, says.design, says.ranked)
-before_settling top texts p v says Cells reads early = says.cells
+before_settling top texts p v says Design reads early = (p, says.design, says.ranked, tt)
+before_settling top texts p v says Cells reads early = has_cells top texts p says.design
 before_settling top texts p v says Groups reads early = record { design = p; says = says.design; holds = (v, says.groups, tt) }
 before_settling top texts p v says Board reads early = absurd (omega (arith, reads))
 before_settling top texts p v says Netlist reads early = absurd (omega (arith, reads))
@@ -272,7 +328,7 @@ before_settling top texts p v says Opening reads early = absurd (omega (arith, e
 before_settling top texts p v says Events reads early = absurd (omega (arith, early))
 
 -- events come behind the opening
-pub before_events : (command : Command) (top : List ℕ) (texts : Texts) (p : Parts) (o : opened.Opening) → SaysDesign top (texts Design) p → SaysOpening p (texts Opening) o → EarlierAreRead command top texts Opening → EarlierAreRead command top texts Events
+pub before_events : (command : Command) (top : List ℕ) (texts : Texts) (p : Parts) (o : opened.Opening) → SaysDesign top texts p → SaysOpening p (texts Opening) o → EarlierAreRead command top texts Opening → EarlierAreRead command top texts Events
 before_events command top texts p o design opening before Design reads early = before Design reads (omega arith)
 before_events command top texts p o design opening before Cells reads early = before Cells reads (omega arith)
 before_events command top texts p o design opening before Groups reads early = before Groups reads (omega arith)

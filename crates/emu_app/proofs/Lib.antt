@@ -1,5 +1,6 @@
 pub mod Fetches
 pub mod Readings
+pub mod PlainDesigns
 pub mod OneCases
 pub mod PlainChips
 pub mod FirstUnread

@@ -1,12 +1,11 @@
 -- That texts stand for one case at most, and that a case stands.
 use Rattle.std.proofs.Common.{ℕ, ◌≡◌, List, [], ◌∷◌, Some, slice_get, refl, sym, ◌∙◌, ap, subst}
 use Rattle.verilog_lex.specs.Reads as reading
-use Rattle.verilog_tree.specs.Laws.{HasOneTree}
 use Rattle.design_core.specs.declared.parts.Parts.{Parts}
 use Rattle.design_core.specs.Design.{IsDesign}
 use Rattle.design_core.specs.Dependency.{IsRanked}
 use Rattle.design_core.specs.Influence.{Group}
-use Rattle.elaborator.specs.GateDesign as designs
+use Rattle.flattening.specs.Laws.{EachTextHasOneDesign}
 use Rattle.board_model.specs.Answers as boards
 use Rattle.emu_machine.specs.declared.netlist.Chip.{Chip}
 use Rattle.emu_machine.specs.declared.schedule.Schedule.{Schedule}
@@ -19,19 +18,12 @@ use Rattle.result_files.specs.PlainNetlist as netlists
 use Rattle.result_files.specs.PlainSchedule as schedules
 use Rattle.result_files.specs.PlainMap as maps
 use Rattle.schedule_check.specs.Verdict.{plain_case}
-use Rattle.emu_app.specs.declared.what.What.TheVariants.{Design, Board, Netlist, Schedule as ScheduleText, Map}
+use Rattle.emu_app.specs.declared.what.What.TheVariants.{Design, Cells, Board, Netlist, Schedule as ScheduleText, Map}
 use Rattle.emu_app.specs.declared.plan_texts.OneChip.{OneChip}
 use Rattle.emu_app.specs.Fetching.{Texts}
 use Rattle.emu_app.specs.Forms.{SaysDesign, SaysBoard, SaysNetlist, SaysShortSchedule}
 use Rattle.emu_app.specs.Reading.{BoardSays, ResultsSay, StandFor, StandForOne, TextsTellCasesApart, case_of}
-use Rattle.emu_app.proofs.Readings.{tokens_once, one_tree, one_plan, one_chip_plan}
-
--- a text describes one design
-pub one_design : reading.EachTextHasOneAnswer → HasOneTree → designs.TreesTellDesignsApart → (top text : List ℕ) (p q : Parts) → SaysDesign top text p → SaysDesign top text q → p ≡ q
-one_design law trees apart top text p q says-p says-q =
-    let same : (says-q.tokens ≡ says-p.tokens) × (says-q.tree ≡ says-p.tree) = one_tree law trees text says-p.tokens says-q.tokens says-p.tree says-q.tree says-p.is_tree says-q.is_tree in
-    apart text says-p.tokens says-p.tree top p q says-p.describes
-    (subst (λ t. designs.Describes text says-p.tokens t top q) same.1 (subst (λ ts. designs.Describes text ts says-q.tree top q) same.0 says-q.describes))
+use Rattle.emu_app.proofs.Readings.{tokens_once, one_plan, one_chip_plan}
 
 -- a text writes down one netlist
 pub one_netlist : reading.EachTextHasOneAnswer → netlists.TextsTellChipsApart → (text : List ℕ) (m n : Chip) → SaysNetlist text m → SaysNetlist text n → m ≡ n
@@ -69,10 +61,10 @@ same_results tokens netlists-apart schedules-apart maps-apart texts a b say-a sa
     ∙ sym say-b.is
 
 -- texts stand for one case at most
-pub one_case : reading.EachTextHasOneAnswer → HasOneTree → designs.TreesTellDesignsApart → boards.EachTextHasOneAnswer → netlists.TextsTellChipsApart → schedules.TextsTellSchedulesApart → maps.TextsTellMapsApart
+pub one_case : reading.EachTextHasOneAnswer → EachTextHasOneDesign → boards.EachTextHasOneAnswer → netlists.TextsTellChipsApart → schedules.TextsTellSchedulesApart → maps.TextsTellMapsApart
     → (top : List ℕ) (texts : Texts) (c d : Case) → StandFor top texts c → StandFor top texts d → d ≡ c
-one_case tokens trees designs-apart boards-law netlists-apart schedules-apart maps-apart top texts c d sc sd =
-    let design : sd.design ≡ sc.design = one_design tokens trees designs-apart top (texts Design) sd.design sc.design sd.board_says.plain.first.design sc.board_says.plain.first.design in
+one_case tokens designs-apart boards-law netlists-apart schedules-apart maps-apart top texts c d sc sd =
+    let design : sd.design ≡ sc.design = designs-apart (texts Design) (texts Cells) top sd.design sc.design sd.board_says.plain.first.design sc.board_says.plain.first.design in
     let room : sd.chip.room ≡ sc.chip.room = same_room boards-law (texts Board) sd.chip sc.chip sd.board_says.board sc.board_says.board in
     let slots : sd.chip.slots ≡ sc.chip.slots = same_slots boards-law (texts Board) sd.chip sc.chip sd.board_says.board sc.board_says.board in
     let results : sd.results ≡ sc.results = same_results tokens netlists-apart schedules-apart maps-apart texts sd.results sc.results sd.results_say sc.results_say in
@@ -84,8 +76,8 @@ one_case tokens trees designs-apart boards-law netlists-apart schedules-apart ma
     ∙ sym sc.is
 
 -- the design of a case is the one that the texts say
-pub case_design : (top : List ℕ) (texts : Texts) (c : Case) → StandFor top texts c → SaysDesign top (texts Design) c.design
-case_design top texts c s = subst (λ (x : Case). SaysDesign top (texts Design) x.design) (sym s.is) s.board_says.plain.first.design
+pub case_design : (top : List ℕ) (texts : Texts) (c : Case) → StandFor top texts c → SaysDesign top texts c.design
+case_design top texts c s = subst (λ (x : Case). SaysDesign top texts x.design) (sym s.is) s.board_says.plain.first.design
 
 -- what the texts say makes a case, and no other
 pub reads_case : (top : List ℕ) (texts : Texts) (p : Parts) (chip : OneChip) (results : Results) → BoardSays top texts p chip → ResultsSay texts results → TextsTellCasesApart → StandForOne top texts (case_of p chip results)

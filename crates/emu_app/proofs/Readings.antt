@@ -14,7 +14,12 @@ use Rattle.verilog_tree.specs.Terminal.{terminal_at}
 use Rattle.verilog_tree.specs.Laws.{HasOneTree}
 use Rattle.verilog_tree.specs.Grammar.{IsSource}
 use Rattle.design_core.specs.declared.parts.Parts.{Parts}
-use Rattle.elaborator.specs.GateDesign.{Describes}
+use Rattle.flattening.specs.declared.fault.ElabFault.{ElabFault}
+use Rattle.flattening.specs.declared.fault.ElabFault.TheVariants as elab
+use Rattle.flattening.specs.Laws.{EachTreeHasOneAnswer}
+use Rattle.flattening.specs.Places.{Given}
+use Rattle.flattening.specs.Stands as flat
+use Rattle.flattening.specs.Stands.{given_by}
 use Rattle.board_model.specs.declared.fault.BoardFault.{BoardFault}
 use Rattle.board_model.specs.declared.fault.BoardFault.TheVariants as board
 use Rattle.board_model.specs.Answers as boards
@@ -42,16 +47,17 @@ use Rattle.emu_app.specs.declared.refusal.BoardsFault.{BoardsFault}
 use Rattle.emu_app.specs.declared.refusal.BoardsFault.TheVariants as told
 use Rattle.emu_app.specs.declared.refusal.CellsFault.{CellsFault}
 use Rattle.emu_app.specs.declared.refusal.CellsFault.TheVariants as cells
+use Rattle.emu_app.specs.declared.refusal.DesignsFault.{DesignsFault}
+use Rattle.emu_app.specs.declared.refusal.DesignsFault.TheVariants as designs
 use Rattle.emu_app.specs.declared.refusal.EventsFault.{EventsFault}
 use Rattle.emu_app.specs.declared.refusal.EventsFault.TheVariants as events_told
 use Rattle.emu_app.specs.declared.refusal.GroupsFault.{GroupsFault}
 use Rattle.emu_app.specs.declared.refusal.GroupsFault.TheVariants as groups_told
 use Rattle.emu_app.specs.declared.refusal.OpeningsFault.{OpeningsFault}
 use Rattle.emu_app.specs.declared.refusal.OpeningsFault.TheVariants as opening_told
-use Rattle.emu_app.specs.declared.refusal.Refusal.TheVariants as refusal
-use Rattle.emu_app.specs.declared.refusal.Unread.TheVariants as unread
-use Rattle.emu_app.specs.declared.what.What.TheVariants.{Design}
-use Rattle.emu_app.specs.Faults.{HasBoardFault, HasCellsFault, HasEventsFault, HasGroupsFault, HasNoTree, HasOpeningFault, board_fault_of, board_refusal, byte_of, cell_fault_of, cells_refusal, event_fault_of, group_fault_of, lex_refusal, opening_fault_of, parse_refusal}
+use Rattle.emu_app.specs.declared.what.What.TheVariants.{Design, Cells}
+use Rattle.emu_app.specs.Fetching.{Texts}
+use Rattle.emu_app.specs.Faults.{HasBoardFault, HasCellsFault, HasDesignFault, HasEventsFault, HasGroupsFault, HasNoTree, HasOpeningFault, board_fault_of, board_refusal, byte_of, cell_fault_of, cells_refusal, design_fault_of, design_refusal, event_fault_of, group_fault_of, lex_refusal, opening_fault_of, parse_refusal}
 use Rattle.emu_app.specs.Forms.{AreTokens, HasCells, IsTreeOf, SaysBoard, SaysDesign, SaysGroups, SaysNetlist, SaysOtherBoard, SaysShortSchedule, plan_of}
 use Rattle.emu_app.specs.Reading.{BoardMeans, CellsMean, DesignMeans, NoneSaid, TreeMeans}
 
@@ -117,18 +123,6 @@ one_tree law trees text tokens others tree other is also =
     let same : others ≡ tokens = tokens_once law text tokens is.are_tokens others also.are_tokens in
     let there : IsSource (map terminal_at tokens) other = subst (λ ts. IsSource (map terminal_at ts) other) same also.explains.0 in
     (same, trees (map terminal_at tokens) other tree there is.explains.0)
-
--- where the tree describes no design, the text describes none
-no_design : reading.EachTextHasOneAnswer → HasOneTree → (top text : List ℕ) (tokens : List Token) (tree : Source) → IsTreeOf text tokens tree → ((p : Parts) → Describes text tokens tree top p → ⊥) → NoneSaid (SaysDesign top text)
-no_design law trees top text tokens tree is never p says =
-    let same : (says.tokens ≡ tokens) × (says.tree ≡ tree) = one_tree law trees text tokens says.tokens tree says.tree is says.is_tree in
-    never p (subst (λ t. Describes text tokens t top p) same.1 (subst (λ ts. Describes text ts says.tree top p) same.0 says.describes))
-
--- a tree that describes no design is not of the form
-pub design_not_yet : reading.EachTextHasOneAnswer → HasOneTree → (top text : List ℕ) (tokens : List Token) (tree : Source) → IsTreeOf text tokens tree → ((p : Parts) → Describes text tokens tree top p → ⊥)
-    → DesignMeans top text (Err (unread.Refused (refusal.NotYet Design)))
-design_not_yet law trees top text tokens tree is never =
-    (refl, record { tokens = tokens; tree = tree; is_tree = is }, no_design law trees top text tokens tree is never)
 
 -- where the tokens write down no netlist, the text writes down none
 pub no_netlist : reading.EachTextHasOneAnswer → (text : List ℕ) (tokens : List Token) → AreTokens text tokens → ((netlist : Chip) → SaysChip text tokens netlist → ⊥) → NoneSaid (SaysNetlist text)
@@ -241,6 +235,73 @@ no_table law text fault stands has =
     let right-kept : right ≢ memory = λ e. cc in
     let same : left ≡ right = law text left right left-kept right-kept stands has.stands in
     cc
+
+-- ## The design
+
+-- a fault that flattening tells is that of what is given
+pub design_means : (g : Given) (top : List ℕ) (fault : ElabFault) → flat.Answers g top (Err fault) → DesignMeans g top (Err (design_refusal fault))
+design_means g top elab.NoTop answers = answers
+design_means g top (elab.NameTwice at) answers = answers
+design_means g top (elab.UnknownModule at) answers = answers
+design_means g top (elab.Recursive at) answers = answers
+design_means g top (elab.PortCount at) answers = answers
+design_means g top (elab.NoPort at) answers = answers
+design_means g top (elab.PortTwice at) answers = answers
+design_means g top (elab.WidthDiffers at) answers = answers
+design_means g top (elab.BadIndex at) answers = answers
+design_means g top (elab.NotDeclared at) answers = answers
+design_means g top (elab.Limit which at) answers = answers
+design_means g top (elab.TwoDrivers net name) answers = answers
+design_means g top (elab.Undriven net name) answers = answers
+design_means g top elab.NoMemory answers = tt
+
+no_design_memory : (fault : DesignsFault) → design_fault_of fault ≡ elab.NoMemory → ⊥
+no_design_memory designs.NoTop same = cc
+no_design_memory (designs.NameTwice at) same = cc
+no_design_memory (designs.UnknownModule at) same = cc
+no_design_memory (designs.Recursive at) same = cc
+no_design_memory (designs.PortCount at) same = cc
+no_design_memory (designs.NoPort at) same = cc
+no_design_memory (designs.PortTwice at) same = cc
+no_design_memory (designs.WidthDiffers at) same = cc
+no_design_memory (designs.BadIndex at) same = cc
+no_design_memory (designs.NotDeclared at) same = cc
+no_design_memory (designs.Limit which at) same = cc
+no_design_memory (designs.TwoDrivers net name) same = cc
+no_design_memory (designs.Undriven net name) same = cc
+
+-- a text stands for one table of cells
+one_table : tables.EachTextHasOneAnswer → (text : List ℕ) (a b : List Cell) → tables.Stands text (Ok a) → tables.Stands text (Ok b) → a ≡ b
+one_table law text a b stands also =
+    let left : Result (List Cell) CellFault = Ok a in
+    let right : Result (List Cell) CellFault = Ok b in
+    let memory : Result (List Cell) CellFault = Err cell.NoMemory in
+    let left-kept : left ≢ memory = λ e. cc in
+    let right-kept : right ≢ memory = λ e. cc in
+    let same : left ≡ right = law text left right left-kept right-kept stands also in
+    cc
+
+-- what is given that has a fault describes no design
+no_design : EachTreeHasOneAnswer → (g : Given) (top : List ℕ) (fault : DesignsFault) (p : Parts) → flat.Answers g top (Err (design_fault_of fault)) → flat.Answers g top (Ok p) → ⊥
+no_design law g top fault p faulty describes =
+    let left : Result Parts ElabFault = Err (design_fault_of fault) in
+    let right : Result Parts ElabFault = Ok p in
+    let memory : Result Parts ElabFault = Err elab.NoMemory in
+    let left-kept : left ≢ memory = λ e. no_design_memory fault cc in
+    let right-kept : right ≢ memory = λ e. cc in
+    let same : left ≡ right = law g top left right left-kept right-kept faulty describes in
+    cc
+
+-- texts with a fault of flattening say no design
+pub no_flat : reading.EachTextHasOneAnswer → HasOneTree → tables.EachTextHasOneAnswer → EachTreeHasOneAnswer → (top : List ℕ) (texts : Texts) (fault : DesignsFault) (p : Parts) → HasDesignFault top texts fault → SaysDesign top texts p → ⊥
+no_flat lexed trees table-law law top texts fault p has says =
+    let also : IsTreeOf (texts Design) says.tokens says.tree = record { are_tokens = says.tokens_are; explains = says.tree_is } in
+    let same : (says.tokens ≡ has.tokens) × (says.tree ≡ has.tree) = one_tree lexed trees (texts Design) has.tokens says.tokens has.tree says.tree has.is_tree also in
+    let table : says.cells ≡ has.cells = one_table table-law (texts Cells) says.cells has.cells says.cells_are has.is_table in
+    no_design law (given_by (texts Design) has.tokens has.tree has.cells) top fault p has.answers
+    (subst (λ cells. flat.Answers (given_by (texts Design) has.tokens has.tree cells) top (Ok p)) table
+    (subst (λ (tree : Source). flat.Answers (given_by (texts Design) has.tokens tree says.cells) top (Ok p)) same.1
+    (subst (λ tokens. flat.Answers (given_by (texts Design) tokens says.tree says.cells) top (Ok p)) same.0 says.describes)))
 
 -- ## Groups
 

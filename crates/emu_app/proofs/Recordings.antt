@@ -2,8 +2,6 @@
 use Rattle.std.proofs.Common.{ℕ, ◌≡◌, ◌≢◌, List, [], ◌∷◌, map, ◌∙◌, refl, sym, ap, subst}
 use Rattle.id_arena.specs.declared.keys.ElemId.{ElemId}
 use Rattle.id_arena.specs.declared.keys.MemId.{MemId}
-use Rattle.verilog_lex.specs.Reads as reading
-use Rattle.verilog_tree.specs.Laws.{HasOneTree}
 use Rattle.design_core.specs.declared.parts.Parts.{Parts}
 use Rattle.design_core.specs.declared.values.Event.{Event}
 use Rattle.design_core.specs.declared.values.PortBit.{PortBit}
@@ -11,7 +9,7 @@ use Rattle.domain_groups.specs.Answers as groups
 use Rattle.domain_groups.specs.Events.{EachRecordingHasOneAnswer, SaysEvents}
 use Rattle.domain_groups.specs.Groups.{InputGroups}
 use Rattle.domain_groups.specs.Openings.{EachOpeningHasOneAnswer, PlainOpening, PlainWord}
-use Rattle.elaborator.specs.GateDesign as designs
+use Rattle.flattening.specs.Laws.{EachTextHasOneDesign}
 use Rattle.event_replay.specs.Opened.{plain, plain_word_of}
 use Rattle.settled_model.specs.declared.opening.OpenWord.{OpenWord}
 use Rattle.settled_model.specs.declared.opening.Opening as opened
@@ -21,12 +19,11 @@ use Rattle.emu_app.specs.declared.refusal.GroupsFault.{GroupsFault}
 use Rattle.emu_app.specs.declared.refusal.OpeningsFault.{OpeningsFault}
 use Rattle.emu_app.specs.declared.command.Command.{Command}
 use Rattle.emu_app.specs.declared.command.Command.TheVariants.{Check, Settle, Replay}
-use Rattle.emu_app.specs.declared.what.What.TheVariants.{Design, Groups, Opening, Events}
+use Rattle.emu_app.specs.declared.what.What.TheVariants.{Design, Cells, Groups, Opening, Events}
 use Rattle.emu_app.specs.Fetching.{Texts}
-use Rattle.emu_app.specs.Forms.{SaysDesign, SaysGroups, SaysOpening}
+use Rattle.emu_app.specs.Forms.{SaysGroups, SaysOpening}
 use Rattle.emu_app.specs.Reading.{EventsAreFaulty, GroupsAreFaulty, HasSomeGroups, IsRead, OfDesign, OpeningIsFaulty, StandForSettle, TakesGroups, TextsTellRecordingsApart, TextsTellRunsApart}
 use Rattle.emu_app.specs.Runs.{RecordingSays}
-use Rattle.emu_app.proofs.OneCases.{one_design}
 use Rattle.emu_app.proofs.Readings.{no_events, no_groups, no_plain_opening, one_events, one_groups, one_plain_opening}
 
 -- ## Openings by plain numbers
@@ -64,29 +61,29 @@ same_opening a b same =
 
 -- ## What faults exclude
 
-module _ (lexed : reading.EachTextHasOneAnswer) (trees : HasOneTree) (apart : designs.TreesTellDesignsApart) (grouped : groups.EachTextHasOneAnswer) (top : List ℕ) (texts : Texts) where
+module _ (apart : EachTextHasOneDesign) (grouped : groups.EachTextHasOneAnswer) (top : List ℕ) (texts : Texts) where
   -- where the groups of the design that is told have a fault, those of no design are read
   pub groups_unread : (command : Command) (fault : GroupsFault) → GroupsAreFaulty top texts fault → IsRead command top texts Groups → ⊥
   groups_unread command fault faulty read =
-      let same : read.design ≡ faulty.design = one_design lexed trees apart top (texts Design) read.design faulty.design read.says faulty.says in
+      let same : read.design ≡ faulty.design = apart (texts Design) (texts Cells) top read.design faulty.design read.says faulty.says in
       no_groups grouped faulty.design (texts Groups) fault faulty.holds read.holds.0 (subst (λ p. SaysGroups p (texts Groups) read.holds.0) same read.holds.1)
 
   -- where there are some, a command that judges reads none
   pub some_unread : (command : Command) → ((v : InputGroups) → TakesGroups command v → v.groups ≡ []) → OfDesign top texts (HasSomeGroups texts) → IsRead command top texts Groups → ⊥
   some_unread command judges some read =
-      let same : read.design ≡ some.design = one_design lexed trees apart top (texts Design) read.design some.design read.says some.says in
+      let same : read.design ≡ some.design = apart (texts Design) (texts Cells) top read.design some.design read.says some.says in
       let one : read.holds.0 ≡ some.holds.0 = one_groups grouped some.design (texts Groups) read.holds.0 some.holds.0 (subst (λ p. SaysGroups p (texts Groups) read.holds.0) same read.holds.1) some.holds.1 in
       some.holds.2 (subst (λ v. v.groups ≡ []) one (judges read.holds.0 read.holds.2))
 
   pub opening_unread : EachOpeningHasOneAnswer → (command : Command) (fault : OpeningsFault) → OpeningIsFaulty top texts fault → IsRead command top texts Opening → ⊥
   opening_unread law command fault faulty read =
-      let same : read.design ≡ faulty.design = one_design lexed trees apart top (texts Design) read.design faulty.design read.says faulty.says in
+      let same : read.design ≡ faulty.design = apart (texts Design) (texts Cells) top read.design faulty.design read.says faulty.says in
       no_plain_opening law faulty.design (texts Opening) fault faulty.holds (plain read.holds.0) (subst (λ p. SaysOpening p (texts Opening) read.holds.0) same read.holds.1)
 
   pub events_unread : EachRecordingHasOneAnswer → (command : Command) (fault : EventsFault) → EventsAreFaulty top texts fault → IsRead command top texts Events → ⊥
   events_unread law command fault faulty read =
       let p : Parts = faulty.design in
-      let same : read.design ≡ p = one_design lexed trees apart top (texts Design) read.design p read.says faulty.says in
+      let same : read.design ≡ p = apart (texts Design) (texts Cells) top read.design p read.says faulty.says in
       let one : read.holds.0 ≡ faulty.holds.0 = one_groups grouped p (texts Groups) read.holds.0 faulty.holds.0 (subst (λ q. SaysGroups q (texts Groups) read.holds.0) same read.holds.2) faulty.holds.1 in
       no_events law faulty.holds.0 p (texts Events) fault faulty.holds.2 read.holds.1
       (subst (λ v. SaysEvents v p.inputs (texts Events) read.holds.1) one (subst (λ (q : Parts). SaysEvents read.holds.0 q.inputs (texts Events) read.holds.1) same read.holds.3))
@@ -107,7 +104,7 @@ one_recording grouped openings recordings texts p r other says also =
     ap (λ x. recorded x other.events) opening ∙ ap (λ x. recorded r.opening x) events
 
 -- texts stand for one design and one recording at most
-pub one_run : reading.EachTextHasOneAnswer → HasOneTree → designs.TreesTellDesignsApart → TextsTellRecordingsApart → TextsTellRunsApart
-one_run law trees apart recordings top texts p q r other stand also =
-    let same : q ≡ p = one_design law trees apart top (texts Design) q p also.first.design stand.first.design in
+pub one_run : EachTextHasOneDesign → TextsTellRecordingsApart → TextsTellRunsApart
+one_run apart recordings top texts p q r other stand also =
+    let same : q ≡ p = apart (texts Design) (texts Cells) top q p also.first.design stand.first.design in
     (same, recordings texts p r other stand.recorded (subst (λ x. RecordingSays texts x other) same also.recorded))

@@ -16,9 +16,10 @@ use Rattle.verilog_tree.specs.Source.{Explains, FirstFault, dives}
 use Rattle.verilog_tree.specs.Terminal.{terminal_at}
 use Rattle.cell_table.specs.Table as tables
 use Rattle.clock_rank.specs.Answers.{CyclesAreUnranked}
-use Rattle.elaborator.specs.GateDesign as designs
+use Rattle.flattening.specs.Laws.{EachTextHasOneDesign, EachTreeHasOneAnswer}
 use Rattle.design_core.specs.declared.parts.Parts.{Parts}
 use Rattle.design_core.specs.Dependency.{IsRanked}
+use Rattle.design_core.specs.Plain.{IsPlain}
 use Rattle.domain_groups.specs.Groups.{InputGroups}
 use Rattle.emu_app.specs.declared.refusal.TextFault.{TextFault}
 use Rattle.emu_app.specs.declared.refusal.TextFault.TheVariants.{BadByte, OpenComment, OpenAttribute, BadNumber, UnknownDigit, Directive, Expected, Unsupported, TooDeep}
@@ -27,7 +28,8 @@ use Rattle.emu_app.specs.declared.command.Command.{Command}
 use Rattle.emu_app.specs.declared.command.Command.TheVariants.{Check, Settle, Replay}
 use Rattle.emu_app.specs.declared.recording.Recording.{Recording}
 use Rattle.emu_app.specs.declared.refusal.Refusal.{Refusal}
-use Rattle.emu_app.specs.Command.{Reads, settle_place}
+use Rattle.emu_app.specs.Command.{Judges, Reads, settle_place}
+use Rattle.emu_app.specs.Cycles.{HasCycle}
 use Rattle.emu_app.specs.Runs.{DesignSays, RecordingSays}
 use Rattle.emu_app.specs.declared.refusal.Refusal.TheVariants as refusal
 use Rattle.emu_app.specs.declared.what.What.{What}
@@ -35,10 +37,11 @@ use Rattle.emu_app.specs.declared.what.What.TheVariants.{Design, Cells, Groups, 
 use Rattle.emu_app.specs.What.{order}
 use Rattle.emu_app.specs.Fetching.{Texts}
 use Rattle.emu_app.specs.Faults.{HasFault, HasNoTree}
-use Rattle.emu_app.specs.Forms.{AreTokens, HasCells, IsTreeOf, SaysDesign}
-use Rattle.emu_app.specs.Reading.{AreRead, FirstUnread, GoesRound, IsRead, NotYetMeans, PlainSays, Refuses, RefusedTextsStandForNothing, StandFor, StandForSettle, TakesGroups}
-use Rattle.emu_app.proofs.OneCases.{case_design, one_design}
-use Rattle.emu_app.proofs.Readings.{no_table, one_answer, tokens_once}
+use Rattle.emu_app.specs.Forms.{AreTokens, IsTreeOf, SaysDesign}
+use Rattle.emu_app.specs.Reading.{AreRead, FirstUnread, IsOtherDesign, IsRead, NotYetMeans, OfDesign, PlainSays, Refuses, RefusedTextsStandForNothing, StandFor, StandForSettle, TakesDesign, TakesGroups}
+use Rattle.emu_app.proofs.FirstUnread.{has_cells}
+use Rattle.emu_app.proofs.OneCases.{case_design}
+use Rattle.emu_app.proofs.Readings.{no_flat, no_table, one_answer, tokens_once}
 
 -- tokens with a first fault have no tree
 first_fault_no_tree : (ts : List Terminal) (p : ℕ) (tree : Source) → FirstFault ts p → IsSource ts tree → ⊥
@@ -88,15 +91,15 @@ no_tree_with_fault law text TooDeep at tokens tree has is = no_tree_where law te
 -- what texts say that a command reads whole: a design in any case, and each text after it
 record SaysFirst (command : Command) (top : List ℕ) (texts : Texts) : Type 0 where
   design : Parts
-  says : SaysDesign top (texts Design) design
-  cells : HasCells (texts Cells)
+  says : SaysDesign top texts design
   ranked : IsRanked design
+  takes : TakesDesign command design
   all : (what : What) → Reads command what → order Design < order what → IsRead command top texts what
 
 -- what a case gives, whichever command judges it
 read_case : (command : Command) (top : List ℕ) (texts : Texts) (c : Case) → StandFor top texts c → ((v : InputGroups) → v.groups ≡ [] → TakesGroups command v) → (what : What) → order what < 7 → order Design < order what → IsRead command top texts what
 read_case command top texts c s takes Design early later = absurd (omega (arith, later))
-read_case command top texts c s takes Cells early later = s.board_says.plain.first.cells
+read_case command top texts c s takes Cells early later = has_cells top texts s.design s.board_says.plain.first.design
 read_case command top texts c s takes Groups early later =
     let plain : PlainSays top texts s.design = s.board_says.plain in
     record { design = s.design; says = plain.first.design; holds = (plain.groups, plain.first.groups, takes plain.groups plain.none) }
@@ -108,16 +111,16 @@ read_case command top texts c s takes Opening early later = absurd (omega (arith
 read_case command top texts c s takes Events early later = absurd (omega (arith, early))
 
 -- what a recording of a design gives
-read_opened : (command : Command) (top : List ℕ) (texts : Texts) (p : Parts) (r : Recording) → SaysDesign top (texts Design) p → RecordingSays texts p r → IsRead command top texts Opening
+read_opened : (command : Command) (top : List ℕ) (texts : Texts) (p : Parts) (r : Recording) → SaysDesign top texts p → RecordingSays texts p r → IsRead command top texts Opening
 read_opened command top texts p r design says = record { design = p; says = design; holds = (r.opening, says.opening) }
 
-read_events : (command : Command) (top : List ℕ) (texts : Texts) (p : Parts) (r : Recording) → SaysDesign top (texts Design) p → RecordingSays texts p r → IsRead command top texts Events
+read_events : (command : Command) (top : List ℕ) (texts : Texts) (p : Parts) (r : Recording) → SaysDesign top texts p → RecordingSays texts p r → IsRead command top texts Events
 read_events command top texts p r design says = record { design = p; says = design; holds = (says.groups, r.events, says.says_groups, says.events) }
 
 -- what a design with a recording gives
 read_run : (top : List ℕ) (texts : Texts) (p : Parts) (r : Recording) → StandForSettle top texts p r → (what : What) → settle_place what < 5 → order Design < order what → IsRead Settle top texts what
 read_run top texts p r s Design reads later = absurd (omega (arith, later))
-read_run top texts p r s Cells reads later = s.first.cells
+read_run top texts p r s Cells reads later = has_cells top texts p s.first.design
 read_run top texts p r s Groups reads later = record { design = p; says = s.first.design; holds = (s.groups, s.first.groups, tt) }
 read_run top texts p r s Board reads later = absurd (omega (arith, reads))
 read_run top texts p r s Netlist reads later = absurd (omega (arith, reads))
@@ -141,43 +144,53 @@ read_replay top texts c r s recorded Events later = read_events Replay top texts
 says_first : (command : Command) (top : List ℕ) (texts : Texts) → AreRead command top texts → SaysFirst command top texts
 says_first Check top texts (c, s) =
     let first : DesignSays top texts s.design s.board_says.plain.groups = s.board_says.plain.first in
-    record { design = s.design; says = first.design; cells = first.cells; ranked = first.ranked; all = λ what reads later. read_case Check top texts c s (λ v none. none) what reads later }
+    record { design = s.design; says = first.design; ranked = first.ranked; takes = s.board_says.plain.plain; all = λ what reads later. read_case Check top texts c s (λ v none. none) what reads later }
 says_first Settle top texts (p, r, s) =
-    record { design = p; says = s.first.design; cells = s.first.cells; ranked = s.first.ranked; all = λ what reads later. read_run top texts p r s what reads later }
+    record { design = p; says = s.first.design; ranked = s.first.ranked; takes = tt; all = λ what reads later. read_run top texts p r s what reads later }
 says_first Replay top texts (c, r, s, recorded) =
     let first : DesignSays top texts s.design s.board_says.plain.groups = s.board_says.plain.first in
-    record { design = s.design; says = first.design; cells = first.cells; ranked = first.ranked; all = λ what reads later. read_replay top texts c r s recorded what later }
+    record { design = s.design; says = first.design; ranked = first.ranked; takes = s.board_says.plain.plain; all = λ what reads later. read_replay top texts c r s recorded what later }
 
 not_first : (command : Command) (top : List ℕ) (texts : Texts) (what : What) → FirstUnread command top texts what → SaysFirst command top texts → ⊥
 not_first command top texts what first s = first.here (s.all what first.reads first.later)
 
-not_yet : (command : Command) (top : List ℕ) (texts : Texts) (what : What) → NotYetMeans command top texts what → SaysFirst command top texts → ⊥
-not_yet command top texts Design means s = means.1.none s.design s.says
-not_yet command top texts Cells means s = means
-not_yet command top texts Groups means s = not_first command top texts Groups means.1 s
-not_yet command top texts Board means s = not_first command top texts Board means.1 s
-not_yet command top texts Netlist means s = not_first command top texts Netlist means s
-not_yet command top texts ScheduleText means s = not_first command top texts ScheduleText means s
-not_yet command top texts Map means s = not_first command top texts Map means s
-not_yet command top texts Opening means s = means
-not_yet command top texts Events means s = means
+-- a command that judges takes plain designs alone
+takes_plain : (command : Command) (p : Parts) → Judges command → TakesDesign command p → IsPlain p
+takes_plain Check p judges takes = takes
+takes_plain Settle p judges takes = absurd judges
+takes_plain Replay p judges takes = takes
 
-not_refused : reading.EachTextHasOneAnswer → HasOneTree → tables.EachTextHasOneAnswer → designs.TreesTellDesignsApart → CyclesAreUnranked
-    → (command : Command) (top : List ℕ) (texts : Texts) (why : Refusal) → Refuses command top texts why → SaysFirst command top texts → ⊥
-not_refused law trees tables-law apart cycles command top texts (refusal.Faulty fault) means s =
-    no_tree_with_fault law (texts Design) fault.kind fault.at s.says.tokens s.says.tree means s.says.is_tree
-not_refused law trees tables-law apart cycles command top texts (refusal.Cells fault) means s = no_table tables-law (texts Cells) fault means.1 s.cells
-not_refused law trees tables-law apart cycles command top texts (refusal.Cycle names) means s =
-    let round : GoesRound top (texts Design) names = means.1 in
-    let same : s.design ≡ round.design = one_design law trees apart top (texts Design) s.design round.design s.says round.says in
-    cycles round.design round.cycle.nodes round.cycle.is_cycle (subst IsRanked same s.ranked)
-not_refused law trees tables-law apart cycles command top texts (refusal.Groups fault) means s = not_first command top texts Groups means.1 s
-not_refused law trees tables-law apart cycles command top texts (refusal.Board fault) means s = not_first command top texts Board means.1 s
-not_refused law trees tables-law apart cycles command top texts (refusal.Opening fault) means s = not_first command top texts Opening means.1 s
-not_refused law trees tables-law apart cycles command top texts (refusal.Events fault) means s = not_first command top texts Events means.1 s
-not_refused law trees tables-law apart cycles command top texts (refusal.NotYet what) means s = not_yet command top texts what means s
+module _ (apart : EachTextHasOneDesign) (command : Command) (top : List ℕ) (texts : Texts) (s : SaysFirst command top texts) where
+  -- what holds of the design that texts say holds of this one
+  of_design : (Holds : Parts → Type 0) → OfDesign top texts Holds → Holds s.design
+  of_design Holds of = subst Holds (apart (texts Design) (texts Cells) top of.design s.design of.says s.says) of.holds
+
+  not_yet : (what : What) → NotYetMeans command top texts what → ⊥
+  not_yet Design means = let other : IsOtherDesign s.design = of_design IsOtherDesign means.1 in other.other (takes_plain command s.design means.0 s.takes)
+  not_yet Cells means = means
+  not_yet Groups means = not_first command top texts Groups means.1 s
+  not_yet Board means = not_first command top texts Board means.1 s
+  not_yet Netlist means = not_first command top texts Netlist means s
+  not_yet ScheduleText means = not_first command top texts ScheduleText means s
+  not_yet Map means = not_first command top texts Map means s
+  not_yet Opening means = means
+  not_yet Events means = means
+
+  not_refused : reading.EachTextHasOneAnswer → HasOneTree → tables.EachTextHasOneAnswer → EachTreeHasOneAnswer → CyclesAreUnranked → (why : Refusal) → Refuses command top texts why → ⊥
+  not_refused law trees tables-law flattened cycles (refusal.Faulty fault) means =
+      no_tree_with_fault law (texts Design) fault.kind fault.at s.says.tokens s.says.tree means (record { are_tokens = s.says.tokens_are; explains = s.says.tree_is })
+  not_refused law trees tables-law flattened cycles (refusal.Cells fault) means = no_table tables-law (texts Cells) fault means.1 (has_cells top texts s.design s.says)
+  not_refused law trees tables-law flattened cycles (refusal.Design fault) means = no_flat law trees tables-law flattened top texts fault s.design means s.says
+  not_refused law trees tables-law flattened cycles (refusal.Cycle names) means =
+      let cycle : HasCycle s.design names = of_design (λ p. HasCycle p names) means in
+      cycles s.design cycle.nodes cycle.is_cycle s.ranked
+  not_refused law trees tables-law flattened cycles (refusal.Groups fault) means = not_first command top texts Groups means.1 s
+  not_refused law trees tables-law flattened cycles (refusal.Board fault) means = not_first command top texts Board means.1 s
+  not_refused law trees tables-law flattened cycles (refusal.Opening fault) means = not_first command top texts Opening means.1 s
+  not_refused law trees tables-law flattened cycles (refusal.Events fault) means = not_first command top texts Events means.1 s
+  not_refused law trees tables-law flattened cycles (refusal.NotYet what) means = not_yet what means
 
 -- texts that a command refuses stand for nothing
-pub refused_stand_for_nothing : reading.EachTextHasOneAnswer → HasOneTree → tables.EachTextHasOneAnswer → designs.TreesTellDesignsApart → CyclesAreUnranked → RefusedTextsStandForNothing
-refused_stand_for_nothing law trees tables-law apart cycles command top texts why means are =
-    not_refused law trees tables-law apart cycles command top texts why means (says_first command top texts are)
+pub refused_stand_for_nothing : reading.EachTextHasOneAnswer → HasOneTree → tables.EachTextHasOneAnswer → EachTextHasOneDesign → EachTreeHasOneAnswer → CyclesAreUnranked → RefusedTextsStandForNothing
+refused_stand_for_nothing law trees tables-law apart flattened cycles command top texts why means are =
+    not_refused apart command top texts (says_first command top texts are) law trees tables-law flattened cycles why means

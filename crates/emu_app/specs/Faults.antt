@@ -1,13 +1,15 @@
 -- The faults that are told of texts: of a design text that has no tree, with their places in bytes; of a
--- table of cells; of groups; of a board; of an opening; of events.
--- The rules are told in docs/FORMATS.md, "Tokens", "The grammar", "The cell table", "Groups", "The board" and
--- "Openings and events".
-use Rattle.std.specs.Prelude.{◌≡◌, ℕ, true, List, Err, length, map, slice_get}
+-- table of cells; of a design text and a table of cells together; of groups; of a board; of an opening; of
+-- events.
+-- The rules are told in docs/FORMATS.md, "Tokens", "The grammar", "The cell table", "Faults of flattening",
+-- "Groups", "The board" and "Openings and events".
+use Rattle.std.specs.Prelude.{◌≡◌, ℕ, true, List, Ok, Err, length, map, slice_get}
 use Rattle.std.specs.Option.{option_map_or}
 use Rattle.verilog_lex.specs.declared.token.Token.{Token}
 use Rattle.verilog_lex.specs.declared.fault.LexFault.{LexFault}
 use Rattle.verilog_lex.specs.declared.fault.LexFault.TheVariants as lex
 use Rattle.verilog_lex.specs.Reads.{Reads}
+use Rattle.verilog_tree.specs.declared.source.Source.{Source}
 use Rattle.verilog_tree.specs.declared.parser.ParseFault.{ParseFault}
 use Rattle.verilog_tree.specs.declared.parser.ParseFault.TheVariants as parse
 use Rattle.verilog_tree.specs.Source.{Explains}
@@ -15,10 +17,14 @@ use Rattle.verilog_tree.specs.Terminal.{terminal_at}
 use Rattle.board_model.specs.declared.fault.BoardFault.{BoardFault}
 use Rattle.board_model.specs.declared.fault.BoardFault.TheVariants as told_board
 use Rattle.board_model.specs.Answers as boards
+use Rattle.cell_table.specs.declared.cell.Cell.{Cell}
 use Rattle.cell_table.specs.declared.fault.CellFault.{CellFault}
 use Rattle.cell_table.specs.declared.fault.CellFault.TheVariants as told_cell
 use Rattle.cell_table.specs.Table as tables
 use Rattle.design_core.specs.declared.parts.Parts.{Parts}
+use Rattle.flattening.specs.declared.fault.ElabFault.{ElabFault}
+use Rattle.flattening.specs.declared.fault.ElabFault.TheVariants as told_design
+use Rattle.flattening.specs.Stands.{Answers, given_by}
 use Rattle.domain_groups.specs.declared.events.EventFault.{EventFault}
 use Rattle.domain_groups.specs.declared.events.EventFault.TheVariants as told_event
 use Rattle.domain_groups.specs.declared.fault.GroupFault.{GroupFault}
@@ -33,6 +39,8 @@ use Rattle.emu_app.specs.declared.refusal.BoardsFault.{BoardsFault}
 use Rattle.emu_app.specs.declared.refusal.BoardsFault.TheVariants as board
 use Rattle.emu_app.specs.declared.refusal.CellsFault.{CellsFault}
 use Rattle.emu_app.specs.declared.refusal.CellsFault.TheVariants as cells
+use Rattle.emu_app.specs.declared.refusal.DesignsFault.{DesignsFault}
+use Rattle.emu_app.specs.declared.refusal.DesignsFault.TheVariants as design
 use Rattle.emu_app.specs.declared.refusal.EventsFault.{EventsFault}
 use Rattle.emu_app.specs.declared.refusal.EventsFault.TheVariants as events
 use Rattle.emu_app.specs.declared.refusal.GroupsFault.{GroupsFault}
@@ -41,10 +49,12 @@ use Rattle.emu_app.specs.declared.refusal.OpeningsFault.{OpeningsFault}
 use Rattle.emu_app.specs.declared.refusal.OpeningsFault.TheVariants as opening
 use Rattle.emu_app.specs.declared.refusal.TextFault.{TextFault}
 use Rattle.emu_app.specs.declared.refusal.TextFault.TheVariants.{BadByte, OpenComment, OpenAttribute, BadNumber, UnknownDigit, Directive, Expected, Unsupported, TooDeep}
-use Rattle.emu_app.specs.declared.refusal.Refusal.TheVariants.{Faulty, Cells, Groups, Board, Opening, Events}
+use Rattle.emu_app.specs.declared.refusal.Refusal.TheVariants.{Faulty, Cells, Design, Groups, Board, Opening, Events}
 use Rattle.emu_app.specs.declared.refusal.Unread.{Unread}
 use Rattle.emu_app.specs.declared.refusal.Unread.TheVariants as unread
-use Rattle.emu_app.specs.Forms.{AreTokens}
+use Rattle.emu_app.specs.declared.what.What.TheVariants as what
+use Rattle.emu_app.specs.Fetching.{Texts}
+use Rattle.emu_app.specs.Forms.{AreTokens, IsTreeOf}
 
 -- the first byte of a token; past the last token, the number of the text's bytes
 abbrev pub byte_of : List ℕ → List Token → ℕ → ℕ
@@ -115,6 +125,51 @@ cells_refusal (told_cell.TableSize cell) = unread.Refused (Cells (cells.TableSiz
 cells_refusal (told_cell.Limit cell) = unread.Refused (Cells (cells.Limit cell))
 cells_refusal (told_cell.CellTwice cell) = unread.Refused (Cells (cells.CellTwice cell))
 cells_refusal told_cell.NoMemory = unread.NoMemory
+
+-- ## The design
+
+-- a fault of a design, as flattening tells it
+abbrev pub design_fault_of : DesignsFault → ElabFault
+design_fault_of design.NoTop = told_design.NoTop
+design_fault_of (design.NameTwice at) = told_design.NameTwice at
+design_fault_of (design.UnknownModule at) = told_design.UnknownModule at
+design_fault_of (design.Recursive at) = told_design.Recursive at
+design_fault_of (design.PortCount at) = told_design.PortCount at
+design_fault_of (design.NoPort at) = told_design.NoPort at
+design_fault_of (design.PortTwice at) = told_design.PortTwice at
+design_fault_of (design.WidthDiffers at) = told_design.WidthDiffers at
+design_fault_of (design.BadIndex at) = told_design.BadIndex at
+design_fault_of (design.NotDeclared at) = told_design.NotDeclared at
+design_fault_of (design.Limit which at) = told_design.Limit which at
+design_fault_of (design.TwoDrivers net name) = told_design.TwoDrivers net name
+design_fault_of (design.Undriven net name) = told_design.Undriven net name
+
+-- the design text has a tree and the text of cells is a table, and these describe no design: this is their first
+-- fault, or that of the drivers of the flattened parts
+pub record HasDesignFault (top : List ℕ) (texts : Texts) (fault : DesignsFault) : Type 0 where
+  pub tokens : List Token
+  pub tree : Source
+  pub cells : List Cell
+  pub is_tree : IsTreeOf (texts what.Design) tokens tree
+  pub is_table : tables.Stands (texts what.Cells) (Ok cells)
+  pub answers : Answers (given_by (texts what.Design) tokens tree cells) top (Err (design_fault_of fault))
+
+-- the answer to texts of which flattening tells a fault
+abbrev pub design_refusal : ElabFault → Unread
+design_refusal told_design.NoTop = unread.Refused (Design design.NoTop)
+design_refusal (told_design.NameTwice at) = unread.Refused (Design (design.NameTwice at))
+design_refusal (told_design.UnknownModule at) = unread.Refused (Design (design.UnknownModule at))
+design_refusal (told_design.Recursive at) = unread.Refused (Design (design.Recursive at))
+design_refusal (told_design.PortCount at) = unread.Refused (Design (design.PortCount at))
+design_refusal (told_design.NoPort at) = unread.Refused (Design (design.NoPort at))
+design_refusal (told_design.PortTwice at) = unread.Refused (Design (design.PortTwice at))
+design_refusal (told_design.WidthDiffers at) = unread.Refused (Design (design.WidthDiffers at))
+design_refusal (told_design.BadIndex at) = unread.Refused (Design (design.BadIndex at))
+design_refusal (told_design.NotDeclared at) = unread.Refused (Design (design.NotDeclared at))
+design_refusal (told_design.Limit which at) = unread.Refused (Design (design.Limit which at))
+design_refusal (told_design.TwoDrivers net name) = unread.Refused (Design (design.TwoDrivers net name))
+design_refusal (told_design.Undriven net name) = unread.Refused (Design (design.Undriven net name))
+design_refusal told_design.NoMemory = unread.NoMemory
 
 -- ## Groups
 

@@ -8,7 +8,7 @@ use Rattle.verilog_tree.specs.declared.source.Source.{Source}
 use Rattle.verilog_tree.specs.Source.{Explains}
 use Rattle.verilog_tree.specs.Terminal.{terminal_at}
 use Rattle.design_core.specs.declared.parts.Parts.{Parts}
-use Rattle.elaborator.specs.GateDesign.{Describes}
+use Rattle.flattening.specs.Stands as designs
 use Rattle.board_model.specs.Answers.{StandsFor}
 use Rattle.cell_table.specs.declared.cell.Cell.{Cell}
 use Rattle.cell_table.specs.Table.{Stands}
@@ -24,6 +24,8 @@ use Rattle.emu_machine.specs.Results.{SlotsFit}
 use Rattle.result_files.specs.PlainNetlist.{SaysChip}
 use Rattle.result_files.specs.PlainSchedule.{SaysSchedule}
 use Rattle.emu_app.specs.declared.plan_texts.OneChip.{OneChip}
+use Rattle.emu_app.specs.declared.what.What.TheVariants.{Design, Cells}
+use Rattle.emu_app.specs.Fetching.{Texts}
 
 -- the tokens of a text
 abbrev pub AreTokens : List ℕ → List Token → Type 0
@@ -40,12 +42,9 @@ pub record HasTree (text : List ℕ) : Type 0 where
   pub tree : Source
   pub is_tree : IsTreeOf text tokens tree
 
--- a text describes a design whose top has this name
-pub record SaysDesign (top text : List ℕ) (p : Parts) : Type 0 where
-  pub tokens : List Token
-  pub tree : Source
-  pub is_tree : IsTreeOf text tokens tree
-  pub describes : Describes text tokens tree top p
+-- the text of the design and that of the cells stand together for a design whose top has this name
+abbrev pub SaysDesign : List ℕ → Texts → Parts → Type 0
+SaysDesign top texts p = designs.Stands (texts Design) (texts Cells) top p
 
 -- a text stands for a table of cells
 pub record HasCells (text : List ℕ) : Type 0 where

@@ -8,6 +8,7 @@ pub mod Cycles
 pub mod Printing
 pub mod Reading
 pub mod Runs
+pub mod PlainDesign
 pub mod Endings
 pub mod Answers
 pub mod Cases

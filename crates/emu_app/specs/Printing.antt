@@ -1,6 +1,8 @@
 -- The text that each answer prints, and its status.
 -- The rule is told in docs/FORMATS.md, "Printed texts".
 use Rattle.std.specs.Prelude.{ℕ, List, [], ◌∷◌, ◌++◌, Some, None, codes, decimal, length, flat_map}
+use Rattle.design_core.specs.declared.fault.LimitKind.{LimitKind}
+use Rattle.design_core.specs.declared.fault.LimitKind.TheVariants.{Nets, Elements, Inputs, Width, Depth, Instances, Words}
 use Rattle.emu_machine.specs.declared.schedule.Frame.{Frame}
 use Rattle.emu_app.specs.declared.answer.Answer.{Answer}
 use Rattle.emu_app.specs.declared.answer.Answer.TheVariants as answer
@@ -8,6 +10,8 @@ use Rattle.emu_app.specs.declared.refusal.BoardsFault.{BoardsFault}
 use Rattle.emu_app.specs.declared.refusal.BoardsFault.TheVariants as board
 use Rattle.emu_app.specs.declared.refusal.CellsFault.{CellsFault}
 use Rattle.emu_app.specs.declared.refusal.CellsFault.TheVariants as cells
+use Rattle.emu_app.specs.declared.refusal.DesignsFault.{DesignsFault}
+use Rattle.emu_app.specs.declared.refusal.DesignsFault.TheVariants as design
 use Rattle.emu_app.specs.declared.refusal.EventsFault.{EventsFault}
 use Rattle.emu_app.specs.declared.refusal.EventsFault.TheVariants as events
 use Rattle.emu_app.specs.declared.refusal.GroupsFault.{GroupsFault}
@@ -62,6 +66,32 @@ cells_words (cells.TableSize cell) = codes "TableSize " ++ decimal cell
 cells_words (cells.Limit cell) = codes "Limit " ++ decimal cell
 cells_words (cells.CellTwice cell) = codes "CellTwice " ++ decimal cell
 
+-- the name of a quantity that has a limit, with a space after it
+abbrev pub limit_name : LimitKind → List ℕ
+limit_name Nets = codes "nets "
+limit_name Elements = codes "elements "
+limit_name Inputs = codes "inputs "
+limit_name Width = codes "width "
+limit_name Depth = codes "depth "
+limit_name Instances = codes "instances "
+limit_name Words = codes "words "
+
+-- a fault of a design, with its byte; of a limit the quantity too; of drivers only the name of the net
+abbrev pub design_words : DesignsFault → List ℕ
+design_words design.NoTop = codes "NoTop"
+design_words (design.NameTwice at) = codes "NameTwice " ++ decimal at
+design_words (design.UnknownModule at) = codes "UnknownModule " ++ decimal at
+design_words (design.Recursive at) = codes "Recursive " ++ decimal at
+design_words (design.PortCount at) = codes "PortCount " ++ decimal at
+design_words (design.NoPort at) = codes "NoPort " ++ decimal at
+design_words (design.PortTwice at) = codes "PortTwice " ++ decimal at
+design_words (design.WidthDiffers at) = codes "WidthDiffers " ++ decimal at
+design_words (design.BadIndex at) = codes "BadIndex " ++ decimal at
+design_words (design.NotDeclared at) = codes "NotDeclared " ++ decimal at
+design_words (design.Limit which at) = codes "Limit " ++ limit_name which ++ decimal at
+design_words (design.TwoDrivers net name) = codes "TwoDrivers " ++ name
+design_words (design.Undriven net name) = codes "Undriven " ++ name
+
 -- a fault of groups, with the number of its group
 abbrev pub groups_words : GroupsFault → List ℕ
 groups_words groups.NotJson = codes "NotJson"
@@ -105,6 +135,7 @@ cycle_text names = line (codes "refused rank Cycle" ++ flat_map (λ name. codes 
 abbrev pub refusal_text : Refusal → List ℕ
 refusal_text (refusal.Faulty fault) = fault_text_of fault
 refusal_text (refusal.Cells fault) = line (codes "refused cells " ++ cells_words fault)
+refusal_text (refusal.Design fault) = line (codes "refused design " ++ design_words fault)
 refusal_text (refusal.Cycle names) = cycle_text names
 refusal_text (refusal.Groups fault) = line (codes "refused groups " ++ groups_words fault)
 refusal_text (refusal.Board fault) = line (codes "refused board " ++ board_words fault)

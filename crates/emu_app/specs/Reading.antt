@@ -3,7 +3,10 @@
 use Rattle.std.specs.Prelude.{◌≡◌, ◌<◌, ℕ, List, [], ◌∷◌, Result, Ok, Err}
 use Rattle.design_core.specs.declared.parts.Parts.{Parts}
 use Rattle.design_core.specs.Dependency.{IsRanked}
+use Rattle.design_core.specs.Plain.{IsPlain}
 use Rattle.design_core.specs.declared.values.Event.{Event}
+use Rattle.flattening.specs.Places.{Given}
+use Rattle.flattening.specs.Stands as designs
 use Rattle.domain_groups.specs.Events.{SaysEvents}
 use Rattle.domain_groups.specs.Groups.{InputGroups}
 use Rattle.settled_model.specs.declared.opening.Opening as opened
@@ -32,9 +35,9 @@ use Rattle.emu_app.specs.declared.refusal.Refusal.TheVariants as refusal
 use Rattle.emu_app.specs.declared.refusal.Unread.{Unread}
 use Rattle.emu_app.specs.declared.refusal.Unread.TheVariants as unread
 use Rattle.emu_app.specs.What.{order}
-use Rattle.emu_app.specs.Command.{Reads}
+use Rattle.emu_app.specs.Command.{Judges, Reads}
 use Rattle.emu_app.specs.Fetching.{Texts}
-use Rattle.emu_app.specs.Faults.{HasBoardFault, HasCellsFault, HasEventsFault, HasFault, HasGroupsFault, HasOpeningFault}
+use Rattle.emu_app.specs.Faults.{HasBoardFault, HasCellsFault, HasDesignFault, HasEventsFault, HasFault, HasGroupsFault, HasOpeningFault, design_fault_of}
 use Rattle.emu_app.specs.Cycles.{HasCycle}
 use Rattle.emu_app.specs.Forms.{IsTreeOf, HasCells, HasTree, SaysDesign, SaysBoard, SaysGroups, SaysNetlist, SaysOpening, SaysOtherBoard, SaysShortSchedule}
 use Rattle.emu_app.specs.Runs.{DesignSays, RecordingSays}
@@ -65,12 +68,12 @@ CellsMean text (Err (unread.Refused (refusal.Cells fault))) = HasCellsFault text
 CellsMean text (Err (unread.Refused why)) = ⊥
 CellsMean text (Err unread.NoMemory) = Unit {0}
 
--- by the answer of reading a design out of the tree of its text
-abbrev pub DesignMeans : List ℕ → List ℕ → Result Parts Unread → Type 0
-DesignMeans top text (Ok p) = SaysDesign top text p
-DesignMeans top text (Err (unread.Refused (refusal.NotYet what))) = (what ≡ Design) × HasTree text × NoneSaid (SaysDesign top text)
-DesignMeans top text (Err (unread.Refused why)) = ⊥
-DesignMeans top text (Err unread.NoMemory) = Unit {0}
+-- by the answer of flattening what is given by a design text, its tokens and tree, and a table of cells
+abbrev pub DesignMeans : Given → List ℕ → Result Parts Unread → Type 0
+DesignMeans g top (Ok p) = designs.Answers g top (Ok p)
+DesignMeans g top (Err (unread.Refused (refusal.Design fault))) = designs.Answers g top (Err (design_fault_of fault))
+DesignMeans g top (Err (unread.Refused why)) = ⊥
+DesignMeans g top (Err unread.NoMemory) = Unit {0}
 
 -- by the answer of reading groups of a design
 abbrev pub GroupsMean : Parts → List ℕ → Result InputGroups Unread → Type 0
@@ -101,16 +104,12 @@ EventsMean v p text (Err (unread.Refused (refusal.Events fault))) = HasEventsFau
 EventsMean v p text (Err (unread.Refused why)) = ⊥
 EventsMean v p text (Err unread.NoMemory) = Unit {0}
 
--- the texts, with this name for the top, say this design, and a table of cells
-pub record FirstSay (top : List ℕ) (texts : Texts) (p : Parts) : Type 0 where
-  pub design : SaysDesign top (texts Design) p
-  pub cells : HasCells (texts Cells)
-
--- the texts, with this name for the top, say this design, which is ranked, a table of cells, and no groups: the
--- judge takes none yet
+-- the texts, with this name for the top, say this design, which is ranked and plain, and no groups: the judge
+-- takes no others yet
 pub record PlainSays (top : List ℕ) (texts : Texts) (p : Parts) : Type 0 where
   pub groups : InputGroups
   pub first : DesignSays top texts p groups
+  pub plain : IsPlain p
   pub none : groups.groups ≡ []
 
 -- they say this, and this board
@@ -166,8 +165,13 @@ pub record StandForOneReplay (top : List ℕ) (texts : Texts) (c : Case) (r : Re
 -- the texts say a design of which this holds
 pub record OfDesign (top : List ℕ) (texts : Texts) (Holds : Parts → Type 0) : Type 0 where
   pub design : Parts
-  pub says : SaysDesign top (texts Design) design
+  pub says : SaysDesign top texts design
   pub holds : Holds design
+
+-- the designs that a command takes: one that judges takes plain ones alone
+abbrev pub TakesDesign : Command → Parts → Type 0
+TakesDesign Settle p = Unit {0}
+TakesDesign other p = IsPlain p
 
 -- the groups that a command takes: one that judges takes none yet
 abbrev pub TakesGroups : Command → InputGroups → Type 0
@@ -190,7 +194,7 @@ HasEvents texts p =
 -- A text is of the form that the command reads so far. A map is that of a netlist; groups, an opening and events
 -- are those of a design.
 abbrev pub IsRead : Command → List ℕ → Texts → What → Type 0
-IsRead command top texts Design = (p : Parts) × SaysDesign top (texts Design) p × IsRanked p
+IsRead command top texts Design = (p : Parts) × SaysDesign top texts p × IsRanked p × TakesDesign command p
 IsRead command top texts Cells = HasCells (texts Cells)
 IsRead command top texts Groups = OfDesign top texts (HasGroups command texts)
 IsRead command top texts Board = (chip : OneChip) × SaysBoard (texts Board) chip
@@ -204,11 +208,6 @@ IsRead command top texts Events = OfDesign top texts (HasEvents texts)
 abbrev pub EarlierAreRead : Command → List ℕ → Texts → What → Type 0
 EarlierAreRead command top texts what = (other : What) → Reads command other → order other < order what → IsRead command top texts other
 
--- the design text has a tree, but describes no design
-pub record HasNoDesign (top text : List ℕ) : Type 0 where
-  pub parsed : HasTree text
-  pub none : NoneSaid (SaysDesign top text)
-
 -- this text, after the design, is the first of those that the command reads that is not of its form
 pub record FirstUnread (command : Command) (top : List ℕ) (texts : Texts) (what : What) : Type 0 where
   pub reads : Reads command what
@@ -216,22 +215,21 @@ pub record FirstUnread (command : Command) (top : List ℕ) (texts : Texts) (wha
   pub here : IsRead command top texts what → ⊥
   pub earlier : EarlierAreRead command top texts what
 
--- the design has a cycle, which these texts name
-pub record GoesRound (top text : List ℕ) (names : List (List ℕ)) : Type 0 where
-  pub design : Parts
-  pub says : SaysDesign top text design
-  pub cycle : HasCycle design names
+-- a design that the judge does not take yet: it is ranked, and not plain
+pub record IsOtherDesign (p : Parts) : Type 0 where
+  pub ranked : IsRanked p
+  pub other : IsPlain p → ⊥
 
 -- the text of groups stands for some groups
 abbrev pub HasSomeGroups : Texts → Parts → Type 0
 HasSomeGroups texts p = (v : InputGroups) × SaysGroups p (texts Groups) v × (v.groups ≡ [] → ⊥)
 
--- Why a text is not of the form that is read so far. The design text has a tree, and a table of cells is read
--- before the tree is asked for a design; groups are groups, but some; a board is one, and of several chips or
--- with a wire; of the texts of results that are not of their form this is the first. All other texts are read
--- whole.
+-- Why a text is not of the form that is read so far. A command that judges takes plain designs, no groups, and
+-- a board of one chip without wires: the design is one, and ranked, but not plain; groups are groups, but some;
+-- a board is one, and of several chips or with a wire; of the texts of results that are not of their form this
+-- is the first. All other texts are read whole.
 abbrev pub NotYetMeans : Command → List ℕ → Texts → What → Type 0
-NotYetMeans command top texts Design = HasCells (texts Cells) × HasNoDesign top (texts Design)
+NotYetMeans command top texts Design = Judges command × OfDesign top texts IsOtherDesign
 NotYetMeans command top texts Cells = ⊥
 NotYetMeans command top texts Groups = OfDesign top texts (HasSomeGroups texts) × FirstUnread command top texts Groups
 NotYetMeans command top texts Board = SaysOtherBoard (texts Board) × FirstUnread command top texts Board
@@ -253,12 +251,14 @@ EventsAreFaulty top texts fault =
     OfDesign top texts (λ p. (v : InputGroups) × SaysGroups p (texts Groups) v × HasEventsFault v p (texts Events) fault)
 
 -- Why the texts are refused, in the order of reading: the design text has no tree; or it has one, and the
--- cells are no table; or they are one, and the design has a cycle; or all texts before this one are read, and
--- it has a fault: the groups, the board, the opening or the events; or a text is not of its form.
+-- cells are no table; or they are one, and the two have a fault of flattening; or they describe a design, and it
+-- has a cycle; or all texts before this one are read, and it has a fault: the groups, the board, the opening or
+-- the events; or a text is not of its form.
 abbrev pub Refuses : Command → List ℕ → Texts → Refusal → Type 0
 Refuses command top texts (refusal.Faulty fault) = HasFault (texts Design) fault.kind fault.at
 Refuses command top texts (refusal.Cells fault) = HasTree (texts Design) × HasCellsFault (texts Cells) fault
-Refuses command top texts (refusal.Cycle names) = HasCells (texts Cells) × GoesRound top (texts Design) names
+Refuses command top texts (refusal.Design fault) = HasDesignFault top texts fault
+Refuses command top texts (refusal.Cycle names) = OfDesign top texts (λ p. HasCycle p names)
 Refuses command top texts (refusal.Groups fault) = GroupsAreFaulty top texts fault × FirstUnread command top texts Groups
 Refuses command top texts (refusal.Board fault) = HasBoardFault (texts Board) fault × FirstUnread command top texts Board
 Refuses command top texts (refusal.Opening fault) = OpeningIsFaulty top texts fault × FirstUnread command top texts Opening

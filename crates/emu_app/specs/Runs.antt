@@ -23,14 +23,13 @@ use Rattle.event_replay.specs.Settings.{AreInputBits}
 use Rattle.emu_app.specs.declared.answer.Answer.{Answer}
 use Rattle.emu_app.specs.declared.answer.Answer.TheVariants as answer
 use Rattle.emu_app.specs.declared.recording.Recording.{Recording}
-use Rattle.emu_app.specs.declared.what.What.TheVariants.{Design, Cells, Groups, Opening, Events}
+use Rattle.emu_app.specs.declared.what.What.TheVariants.{Groups, Opening, Events}
 use Rattle.emu_app.specs.Fetching.{Texts}
-use Rattle.emu_app.specs.Forms.{HasCells, SaysDesign, SaysGroups, SaysOpening}
+use Rattle.emu_app.specs.Forms.{SaysDesign, SaysGroups, SaysOpening}
 
--- the texts say this design, which is ranked, a table of cells, and these groups of the design's inputs
+-- the texts say this design, which is ranked, and these groups of its inputs
 pub record DesignSays (top : List ℕ) (texts : Texts) (p : Parts) (v : InputGroups) : Type 0 where
-  pub design : SaysDesign top (texts Design) p
-  pub cells : HasCells (texts Cells)
+  pub design : SaysDesign top texts p
   pub ranked : IsRanked p
   pub groups : SaysGroups p (texts Groups) v
 

@@ -1,13 +1,15 @@
 //! What a command answers: a status and a text.
 
 ghost use Rattle.std.specs.Prelude.{◌++◌, ◌≡◌, IfOk, OnErr, OnOk, codes, decimal};
-ghost use Rattle.emu_app.specs.Printing.{accepted_text, board_words, cells_words, cycle_text, events_words, fault_name, fault_text_of, frame_line, groups_words, line, opening_words, refusal_text, status_of, text_of};
+ghost use Rattle.emu_app.specs.Printing.{accepted_text, board_words, cells_words, cycle_text, design_words, events_words, fault_name, fault_text_of, frame_line, groups_words, limit_name, line, opening_words, refusal_text, status_of, text_of};
 
 use crate::refusal::{
-    BoardsFault, CellsFault, EventsFault, Fault, GroupsFault, OpeningsFault, Refusal, TextFault,
+    BoardsFault, CellsFault, DesignsFault, EventsFault, Fault, GroupsFault, OpeningsFault, Refusal,
+    TextFault,
 };
 use crate::status::Status;
 use crate::what::What;
+use design_core::LimitKind;
 use emu_io::{NoMemory, Text};
 use emu_machine::{Frame, Results};
 use id_arena::Key;
@@ -118,6 +120,7 @@ fn refusal_text(alloc: Global, why: &Refusal) -> Result<Vec<u8>, NoMemory>
     match why {
         Refusal::Faulty(fault) => fault_text(alloc, fault),
         Refusal::Cells(fault) => cells_text(alloc, *fault),
+        Refusal::Design(fault) => design_text(alloc, fault),
         Refusal::Cycle(names) => cycle_text(alloc, names.as_slice()),
         Refusal::Groups(fault) => groups_text(alloc, *fault),
         Refusal::Board(fault) => board_text(alloc, *fault),
@@ -152,6 +155,54 @@ fn cells_text(alloc: Global, fault: CellsFault) -> Result<Vec<u8>, NoMemory>
         CellsFault::TableSize { cell } => numbered(alloc, refused, b"TableSize ", u64::from(cell)),
         CellsFault::Limit { cell } => numbered(alloc, refused, b"Limit ", u64::from(cell)),
         CellsFault::CellTwice { cell } => numbered(alloc, refused, b"CellTwice ", u64::from(cell)),
+    }
+}
+
+/// The printed name of a quantity that has a limit.
+fn limit_name(which: LimitKind) -> &'static [u8]
+    ensures { result.now ≡ limit_name which }
+{
+    match which {
+        LimitKind::Nets => b"nets ",
+        LimitKind::Elements => b"elements ",
+        LimitKind::Inputs => b"inputs ",
+        LimitKind::Width => b"width ",
+        LimitKind::Depth => b"depth ",
+        LimitKind::Instances => b"instances ",
+        LimitKind::Words => b"words ",
+    }
+}
+
+/// The line that names a fault of a design.
+fn design_text(alloc: Global, fault: &DesignsFault) -> Result<Vec<u8>, NoMemory>
+    ensures { IfOk result (λ text. text.items ≡ line (codes "refused design " ++ design_words fault.now)) }
+{
+    let refused = b"refused design ".as_slice();
+    match fault {
+        DesignsFault::NoTop => line(alloc, refused, b"NoTop", b""),
+        DesignsFault::NameTwice { at } => numbered(alloc, refused, b"NameTwice ", u64::from(*at)),
+        DesignsFault::UnknownModule { at } => {
+            numbered(alloc, refused, b"UnknownModule ", u64::from(*at))
+        }
+        DesignsFault::Recursive { at } => numbered(alloc, refused, b"Recursive ", u64::from(*at)),
+        DesignsFault::PortCount { at } => numbered(alloc, refused, b"PortCount ", u64::from(*at)),
+        DesignsFault::NoPort { at } => numbered(alloc, refused, b"NoPort ", u64::from(*at)),
+        DesignsFault::PortTwice { at } => numbered(alloc, refused, b"PortTwice ", u64::from(*at)),
+        DesignsFault::WidthDiffers { at } => {
+            numbered(alloc, refused, b"WidthDiffers ", u64::from(*at))
+        }
+        DesignsFault::BadIndex { at } => numbered(alloc, refused, b"BadIndex ", u64::from(*at)),
+        DesignsFault::NotDeclared { at } => {
+            numbered(alloc, refused, b"NotDeclared ", u64::from(*at))
+        }
+        DesignsFault::Limit { which, at } => numbered(
+            alloc,
+            b"refused design Limit ",
+            limit_name(*which),
+            u64::from(*at),
+        ),
+        DesignsFault::TwoDrivers { name, .. } => line(alloc, refused, b"TwoDrivers ", name.bytes()),
+        DesignsFault::Undriven { name, .. } => line(alloc, refused, b"Undriven ", name.bytes()),
     }
 }
 

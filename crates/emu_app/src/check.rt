@@ -8,7 +8,8 @@ ghost use Rattle.emu_app.specs.Answers.{JudgeMeans};
 ghost use Rattle.emu_app.specs.Cases.{JudgesAll};
 ghost use Rattle.emu_app.specs.Command.{text_count};
 ghost use Rattle.emu_app.specs.Fetching.{AreWithin, texts_of};
-ghost use Rattle.emu_app.specs.Reading.{AllMean, BoardSays, FirstSay};
+ghost use Rattle.emu_app.specs.Forms.{SaysDesign};
+ghost use Rattle.emu_app.specs.Reading.{AllMean, BoardSays};
 
 use crate::answer::Answer;
 use crate::command::Command;
@@ -43,7 +44,6 @@ fn judge_read(alloc: Global, top: &[u8], texts: &List<Text>) -> Result<Answer, U
     ensures { AllMean Command.Check top.now (texts_of Command.Check texts.now) (JudgeMeans top.now (texts_of Command.Check texts.now)) result }
 {
     texts_tell_cases_apart();
-    elaborator::gate_designs_are_plain();
     let design = read_first(alloc, Command::Check, top, texts)?;
     let chip = read_board_texts(alloc, top, texts, &design)?;
     let results = read_results(alloc, Command::Check, top, texts, &design, chip)?;
@@ -51,7 +51,7 @@ fn judge_read(alloc: Global, top: &[u8], texts: &List<Text>) -> Result<Answer, U
     Ok(found)
 }
 
-/// The board, where the design has an order and no groups; neither is kept.
+/// The board, where the design has an order and is plain, and there are no groups; neither is kept.
 fn read_board_texts(
     alloc: Global,
     top: &[u8],
@@ -59,7 +59,7 @@ fn read_board_texts(
     design: &Design,
 ) -> Result<OneChip, Unread>
     requires count { length texts.now ≡ text_count Command.Check }
-    requires before { FirstSay top.now (texts_of Command.Check texts.now) design.now }
+    requires before { SaysDesign top.now (texts_of Command.Check texts.now) design.now }
     ensures means { AllMean Command.Check top.now (texts_of Command.Check texts.now) (BoardSays top.now (texts_of Command.Check texts.now) design.now) result }
     ensures some { IfOk result (λ chip. 0 < chip.slots) }
 {

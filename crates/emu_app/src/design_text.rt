@@ -1,14 +1,16 @@
-//! Reading the design text.
+//! Reading the design text, and the design that it describes with a table of cells.
 
-ghost use Rattle.std.specs.Prelude.{◌<◌, ◌^◌, ◌≡◌, length};
-ghost use Rattle.emu_app.specs.Faults.{byte_of, lex_refusal, parse_refusal};
+ghost use Rattle.std.specs.Prelude.{◌<◌, ◌^◌, ◌≡◌, List, Ok, length, ℕ};
+ghost use Rattle.cell_table.specs.Table.{Stands};
+ghost use Rattle.flattening.specs.Stands.{given_by};
+ghost use Rattle.emu_app.specs.Faults.{byte_of, design_refusal, lex_refusal, parse_refusal};
 ghost use Rattle.emu_app.specs.Forms.{AreTokens, IsTreeOf};
 ghost use Rattle.emu_app.specs.Reading.{DesignMeans, TreeMeans};
 
-use crate::refusal::{Fault, Refusal, TextFault, Unread};
-use crate::what::What;
+use crate::refusal::{DesignsFault, Fault, Refusal, TextFault, Unread};
+use cell_table::CellTable;
 use design_core::Design;
-use elaborator::{ElabFault, read_gates};
+use elaborator::{ElabFault, elaborate};
 use std::alloc::Global;
 use verilog_lex::{LexFault, Tokens, tokens};
 use verilog_tree::{ParseFault, Source, parse};
@@ -91,16 +93,52 @@ pub fn read_tree(alloc: Global, text: &[u8]) -> Result<Parsed, Unread>
     }
 }
 
-/// The design that a text with this tree describes.
-pub fn read_design(alloc: Global, top: &[u8], text: &[u8], parsed: Parsed) -> Result<Design, Unread>
-    requires { IsTreeOf text.now parsed.tokens parsed.tree }
-    ensures { DesignMeans top.now text.now result }
+/// The answer to a text that has this fault with a table of cells.
+fn faulty_design(fault: DesignsFault) -> Unread
+    ensures { result ≡ Unread.Refused (Refusal.Design fault) }
 {
-    verilog_lex::each_text_has_one_answer();
-    verilog_tree::has_one_tree();
-    match read_gates(alloc, text, parsed.tokens, parsed.tree, top) {
+    Unread::Refused(Refusal::Design(fault))
+}
+
+/// The answer to a text of which flattening tells this fault.
+fn design_refusal(fault: ElabFault) -> Unread
+    ensures { result ≡ design_refusal fault }
+{
+    match fault {
+        ElabFault::NoTop => faulty_design(DesignsFault::NoTop),
+        ElabFault::NameTwice { at } => faulty_design(DesignsFault::NameTwice { at }),
+        ElabFault::UnknownModule { at } => faulty_design(DesignsFault::UnknownModule { at }),
+        ElabFault::Recursive { at } => faulty_design(DesignsFault::Recursive { at }),
+        ElabFault::PortCount { at } => faulty_design(DesignsFault::PortCount { at }),
+        ElabFault::NoPort { at } => faulty_design(DesignsFault::NoPort { at }),
+        ElabFault::PortTwice { at } => faulty_design(DesignsFault::PortTwice { at }),
+        ElabFault::WidthDiffers { at } => faulty_design(DesignsFault::WidthDiffers { at }),
+        ElabFault::BadIndex { at } => faulty_design(DesignsFault::BadIndex { at }),
+        ElabFault::NotDeclared { at } => faulty_design(DesignsFault::NotDeclared { at }),
+        ElabFault::Limit { which, at } => faulty_design(DesignsFault::Limit { which, at }),
+        ElabFault::TwoDrivers { net, name } => {
+            faulty_design(DesignsFault::TwoDrivers { net, name })
+        }
+        ElabFault::Undriven { net, name } => faulty_design(DesignsFault::Undriven { net, name }),
+        ElabFault::NoMemory => Unread::NoMemory,
+    }
+}
+
+/// The design that a text with this tree and a table of cells describe. The tree and its tokens are given
+/// back when the design is made.
+pub fn read_design(
+    alloc: Global,
+    top: &[u8],
+    text: &[u8],
+    parsed: Parsed,
+    cells: &CellTable,
+) -> Result<Design, Unread>
+    requires tree { IsTreeOf text.now parsed.tokens parsed.tree }
+    requires table { (bytes : List ℕ) × Stands bytes (Ok cells.now) }
+    ensures { DesignMeans (given_by text.now parsed.tokens parsed.tree cells.now) top.now result }
+{
+    match elaborate(alloc, text, &parsed.tokens, &parsed.tree, cells, top) {
         Ok(design) => Ok(design),
-        Err(ElabFault::NotYet) => Err(Unread::Refused(Refusal::NotYet(What::Design))),
-        Err(ElabFault::NoMemory) => Err(Unread::NoMemory),
+        Err(fault) => Err(design_refusal(fault)),
     }
 }

@@ -3,13 +3,14 @@
 ghost use Rattle.emu_app.specs.Answers.{SettleAndReplayAgree};
 ghost use Rattle.emu_app.specs.Reading.{RefusedTextsStandForNothing, TextsTellCasesApart, TextsTellRecordingsApart, TextsTellRunsApart};
 
+use flattening::laws::{each_text_has_one_design, each_tree_has_one_answer};
+
 /// Texts stand for one case at most.
 pub fn texts_tell_cases_apart()
     ensures { TextsTellCasesApart }
 {
     verilog_lex::each_text_has_one_answer();
-    verilog_tree::has_one_tree();
-    elaborator::trees_tell_designs_apart();
+    each_text_has_one_design();
     board_model::each_text_has_one_answer();
     result_files::plain_netlists_are_told_apart();
     result_files::plain_schedules_are_told_apart();
@@ -29,9 +30,7 @@ pub fn texts_tell_recordings_apart()
 pub fn texts_tell_runs_apart()
     ensures { TextsTellRunsApart }
 {
-    verilog_lex::each_text_has_one_answer();
-    verilog_tree::has_one_tree();
-    elaborator::trees_tell_designs_apart();
+    each_text_has_one_design();
     texts_tell_recordings_apart();
 }
 
@@ -42,7 +41,8 @@ pub fn refused_texts_stand_for_nothing()
     verilog_lex::each_text_has_one_answer();
     verilog_tree::has_one_tree();
     cell_table::each_text_has_one_answer();
-    elaborator::trees_tell_designs_apart();
+    each_text_has_one_design();
+    each_tree_has_one_answer();
     clock_rank::cycles_are_unranked();
 }
 

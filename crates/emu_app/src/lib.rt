@@ -17,6 +17,7 @@ mod ending;
 mod fetch;
 mod groups_text;
 mod laws;
+mod plain_design;
 mod plan_texts;
 mod ranking;
 mod reading;

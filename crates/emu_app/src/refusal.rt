@@ -1,8 +1,9 @@
 //! Why a text is refused.
 
 use crate::what::What;
+use design_core::LimitKind;
 use emu_io::{List, NoMemory, Text};
-use id_arena::WireId;
+use id_arena::{NetId, WireId};
 
 /// What can be wrong with a design text that has no tree.
 #[derive(Clone, Copy, Debug, Drop, PartialEq, Eq)]
@@ -51,6 +52,37 @@ pub enum CellsFault {
     Limit { cell: u32 },
     /// An earlier cell has the name.
     CellTwice { cell: u32 },
+}
+
+/// What can be wrong with a design whose text has a tree; `at` is a byte of the text.
+#[derive(Debug, Drop)]
+pub enum DesignsFault {
+    /// No module has the name of the top.
+    NoTop,
+    /// A second thing has the name of another.
+    NameTwice { at: u32 },
+    /// No module and no cell has the name.
+    UnknownModule { at: u32 },
+    /// An instance of a module stands within an instance of it.
+    Recursive { at: u32 },
+    /// There are not as many connections as ports or pins.
+    PortCount { at: u32 },
+    /// No port or pin has the name.
+    NoPort { at: u32 },
+    /// A port or pin is connected twice.
+    PortTwice { at: u32 },
+    /// An expression has not as many bits as it must.
+    WidthDiffers { at: u32 },
+    /// A select is none of its net's.
+    BadIndex { at: u32 },
+    /// A name is no net, a port has no direction, or a direction is of no port.
+    NotDeclared { at: u32 },
+    /// A quantity is beyond its limit.
+    Limit { which: LimitKind, at: u32 },
+    /// More than one thing drives a net; the net of least number, with its name.
+    TwoDrivers { net: NetId, name: Text },
+    /// A net is read, and nothing drives it; the net of least number, with its name.
+    Undriven { net: NetId, name: Text },
 }
 
 /// What can be wrong with groups; `group` is a group's place among them, from 0.
@@ -126,6 +158,8 @@ pub enum Refusal {
     Faulty(Fault),
     /// The table of cells has this fault.
     Cells(CellsFault),
+    /// The design text has a tree, and this fault with the table of cells.
+    Design(DesignsFault),
     /// The design's nodes go in a cycle, whose names these are.
     Cycle(List<Text>),
     /// The groups have this fault.

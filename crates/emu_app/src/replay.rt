@@ -16,7 +16,8 @@ ghost use Rattle.settled_model.specs.Opening.{Opens, stands_for};
 ghost use Rattle.emu_app.specs.Answers.{Comes, ReplayMeans, TraceMeans};
 ghost use Rattle.emu_app.specs.Command.{text_count};
 ghost use Rattle.emu_app.specs.Fetching.{AreWithin, texts_of};
-ghost use Rattle.emu_app.specs.Reading.{case_of, AllMean, FirstSay, ReplayedSays};
+ghost use Rattle.emu_app.specs.Forms.{SaysDesign};
+ghost use Rattle.emu_app.specs.Reading.{case_of, AllMean, ReplayedSays};
 ghost use Rattle.emu_app.specs.Runs.{CanReplay, DesignSays, FitsDesign, IsMachineTrace, IsRun, IsUnfit, NoAnswer};
 
 use crate::answer::Answer;
@@ -73,7 +74,7 @@ fn replay_design<O: Sink>(
 ) -> Result<Ending, StoreFault>
     requires count { length texts.now ≡ text_count Command.Replay }
     requires within { AreWithin (texts_of Command.Replay texts.now) }
-    requires says { FirstSay top.now (texts_of Command.Replay texts.now) design.now }
+    requires says { SaysDesign top.now (texts_of Command.Replay texts.now) design.now }
     ensures { Comes (ReplayMeans top.now (texts_of Command.Replay texts.now)) (TraceMeans Command.Replay top.now (texts_of Command.Replay texts.now)) (O.written out.old) (O.written out.new) (O.faults out.old) (O.faults out.new) result }
 {
     match read_plain_order(alloc, Command::Replay, top, texts, design) {
@@ -82,7 +83,7 @@ fn replay_design<O: Sink>(
     }
 }
 
-/// The same, for the design with its nodes in order, which has no groups.
+/// The same, for the design with its nodes in order, which is plain and has no groups.
 fn replay_ranked<O: Sink>(
     alloc: Global,
     top: &[u8],
@@ -94,12 +95,12 @@ fn replay_ranked<O: Sink>(
     requires count { length texts.now ≡ text_count Command.Replay }
     requires within { AreWithin (texts_of Command.Replay texts.now) }
     requires says { DesignSays top.now (texts_of Command.Replay texts.now) ranked.now.design groups.now }
+    requires plain { IsPlain ranked.now.design }
     requires none { groups.now.groups ≡ [] }
     ensures { Comes (ReplayMeans top.now (texts_of Command.Replay texts.now)) (TraceMeans Command.Replay top.now (texts_of Command.Replay texts.now)) (O.written out.old) (O.written out.new) (O.faults out.old) (O.faults out.new) result }
 {
     texts_tell_cases_apart();
     texts_tell_recordings_apart();
-    elaborator::gate_designs_are_plain();
     domain_groups::each_text_has_one_answer();
     domain_groups::recorded_events_fit();
     match read_replayed(alloc, top, texts, ranked.design(), groups) {
@@ -119,6 +120,7 @@ fn read_replayed(
     requires count { length texts.now ≡ text_count Command.Replay }
     requires within { AreWithin (texts_of Command.Replay texts.now) }
     requires before { DesignSays top.now (texts_of Command.Replay texts.now) design.now groups.now }
+    requires plain { IsPlain design.now }
     requires none { groups.now.groups ≡ [] }
     ensures means { AllMean Command.Replay top.now (texts_of Command.Replay texts.now) (ReplayedSays top.now (texts_of Command.Replay texts.now) design.now) result }
     ensures plain { IfOk result (λ replayed. IsPlainResults replayed.results) }

@@ -4,7 +4,7 @@ ghost use Rattle.std.specs.Prelude.{◌≡◌, ◌<◌, length};
 ghost use Rattle.emu_app.specs.Answers.{Comes, SettleMeans, TraceMeans};
 ghost use Rattle.emu_app.specs.Command.{text_count};
 ghost use Rattle.emu_app.specs.Fetching.{AreWithin, texts_of};
-ghost use Rattle.emu_app.specs.Reading.{FirstSay};
+ghost use Rattle.emu_app.specs.Forms.{SaysDesign};
 ghost use Rattle.emu_app.specs.Runs.{DesignSays, FitsDesign, IsHistoryTrace, NoAnswer};
 
 use crate::command::Command;
@@ -46,10 +46,10 @@ fn settle_design<O: Sink>(
     out: &mut O,
 ) -> Result<Ending, StoreFault>
     requires count { length texts.now ≡ text_count Command.Settle }
-    requires says { FirstSay top.now (texts_of Command.Settle texts.now) design.now }
+    requires says { SaysDesign top.now (texts_of Command.Settle texts.now) design.now }
     ensures { Comes (SettleMeans top.now (texts_of Command.Settle texts.now)) (TraceMeans Command.Settle top.now (texts_of Command.Settle texts.now)) (O.written out.old) (O.written out.new) (O.faults out.old) (O.faults out.new) result }
 {
-    match read_order(alloc, Command::Settle, top, texts, design) {
+    match read_order(alloc, top, texts, design) {
         Ok((ranked, groups)) => settle_ranked(alloc, top, texts, &ranked, &groups, out),
         Err(why) => ending_of(why),
     }

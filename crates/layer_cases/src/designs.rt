@@ -3,18 +3,24 @@
 ghost use Rattle.std.specs.Prelude.{◌<◌, length};
 
 use crate::fault::Fault;
+use cell_table::read_cells;
 use clock_rank::rank;
 use design_core::Design;
 use domain_groups::{influence, read_groups};
-use elaborator::read_gates;
+use elaborator::elaborate;
 use id_arena::{GroupId, Key};
 use link_rows::BitRows;
 use std::alloc::Global;
 use verilog_lex::tokens;
 use verilog_tree::parse;
 
-/// The design of a text.
-pub(crate) fn design_of(alloc: Global, top: &[u8], text: &[u8]) -> Result<Design, Fault> {
+/// The design of a text with a table of cells.
+pub(crate) fn design_of(
+    alloc: Global,
+    top: &[u8],
+    text: &[u8],
+    cells: &[u8],
+) -> Result<Design, Fault> {
     if text.len() > 1_000_000 {
         return Err(Fault::NotRead);
     }
@@ -24,7 +30,10 @@ pub(crate) fn design_of(alloc: Global, top: &[u8], text: &[u8]) -> Result<Design
     let Ok(tree) = parse(alloc, &tokens) else {
         return Err(Fault::NoForm);
     };
-    read_gates(alloc, text, tokens, tree, top).map_err(|_| Fault::NoForm)
+    let Ok(cells) = read_cells(alloc, cells) else {
+        return Err(Fault::NoForm);
+    };
+    elaborate(alloc, text, &tokens, &tree, &cells, top).map_err(|_| Fault::NoForm)
 }
 
 /// Adds the places of the bits of a row that are set.
@@ -46,10 +55,10 @@ pub(crate) fn put_influence(
     out: &mut Vec<u8>,
     texts: &[Vec<u8>],
 ) -> Result<(), Fault> {
-    let [top, design, groups] = texts else {
+    let [top, design, cells, groups] = texts else {
         return Err(Fault::NoForm);
     };
-    let design = design_of(alloc, top, design)?;
+    let design = design_of(alloc, top, design, cells)?;
     let Ok(ranked) = rank(alloc, &design) else {
         return Err(Fault::NoForm);
     };

@@ -2,10 +2,10 @@
 //!
 //! The table is the file that the program's argument names: in each line a call and the names of its texts.
 //! Empty lines, and those that begin with `#`, are passed over. Each other line is printed after `> `, then
-//! what the call answers. `influence TOP DESIGN GROUPS` prints for each frame the nets and write nodes that
-//! its group reaches, `tree BOARD` the parent and the distance of each chip from each root, `seed TOP DESIGN
-//! BOARD` the chip of each element, and `schedule` and `map` a text as it is printed again. It is
-//! a test, and has no contract.
+//! what the call answers. `influence TOP DESIGN CELLS GROUPS` prints for each frame the nets and write nodes
+//! that its group reaches, `tree BOARD` the parent and the distance of each chip from each root, `seed TOP
+//! DESIGN CELLS BOARD` the chip of each element, and `schedule` and `map` a text as it is printed again. It
+//! is a test, and has no contract.
 #![tactic(auto)]
 
 mod designs;

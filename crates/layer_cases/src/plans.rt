@@ -64,10 +64,10 @@ fn put_elem(alloc: Global, out: &mut Vec<u8>, elem: ElemId) -> Result<(), Fault>
 
 /// Adds the chip of each element, or the first element without room.
 pub(crate) fn put_seed(alloc: Global, out: &mut Vec<u8>, texts: &[Vec<u8>]) -> Result<(), Fault> {
-    let [top, design, board] = texts else {
+    let [top, design, cells, board] = texts else {
         return Err(Fault::NoForm);
     };
-    let design = design_of(alloc, top, design)?;
+    let design = design_of(alloc, top, design, cells)?;
     let board = board_of(alloc, board)?;
     match seed(alloc, &design, &board) {
         Ok(placement) => put_placement(alloc, out, placement.as_slice()),

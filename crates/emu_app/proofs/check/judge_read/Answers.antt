@@ -1,14 +1,7 @@
 use Rattle.emu_app.specs.declared.command.Command.TheVariants.{Check}
-use Rattle.emu_app.specs.declared.what.What.TheVariants.{Design}
 use Rattle.emu_app.specs.Fetching.{texts_of}
-use Rattle.emu_app.specs.Forms.{SaysDesign}
 use Rattle.emu_app.proofs.OneCases.{reads_case}
 use Rattle.emu_app.proofs.check.judge_read.Goals as goal
-
-pub judge_case-requires-clause-plain : goal.judge_case-requires-clause-plain
-judge_case-requires-clause-plain c =
-    let says : SaysDesign c.args.top.now (texts_of Check c.args.texts.now Design) c.in_ok-design.design = c.in_ok-design.ensures.design in
-    c.gate_designs_are_plain.ensures (texts_of Check c.args.texts.now Design) says.tokens says.tree c.args.top.now c.in_ok-design.design says.describes
 
 pub returns : goal.returns
 returns c =

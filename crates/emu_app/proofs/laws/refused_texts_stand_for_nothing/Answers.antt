@@ -3,4 +3,4 @@ use Rattle.emu_app.proofs.laws.refused_texts_stand_for_nothing.Goals as goal
 
 pub returns : goal.returns
 returns c =
-    refused_stand_for_nothing c.each_text_has_one_answer.ensures c.has_one_tree.ensures c.each_text_has_one_answer-2.ensures c.trees_tell_designs_apart.ensures c.cycles_are_unranked.ensures
+    refused_stand_for_nothing c.each_text_has_one_answer.ensures c.has_one_tree.ensures c.each_text_has_one_answer-2.ensures c.each_text_has_one_design.ensures c.each_tree_has_one_answer.ensures c.cycles_are_unranked.ensures

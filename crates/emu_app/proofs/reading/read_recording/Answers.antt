@@ -14,7 +14,7 @@ returns-in_err-opening-clause-means c =
     let means : OpeningMeans c.args.design.now (texts Opening) (Err c.in_err-opening.field-0.0) =
     subst (λ bytes. OpeningMeans c.args.design.now bytes (Err c.in_err-opening.field-0.0)) c.text_at.ensures c.in_err-opening.ensures.means in
     subst (AllMean c.args.command c.args.top.now texts (RecordingSays texts c.args.design.now)) (sym same)
-    (refused_opening c.each_text_has_one_answer.ensures c.has_one_tree.ensures c.trees_tell_designs_apart.ensures c.each_text_has_one_answer-2.ensures c.args.command c.args.top.now texts (RecordingSays texts c.args.design.now)
+    (refused_opening c.each_text_has_one_design.ensures c.each_text_has_one_answer.ensures c.args.command c.args.top.now texts (RecordingSays texts c.args.design.now)
     c.each_opening_has_one_answer.ensures c.args.design.now c.in_err-opening.field-0.0 means c.requires.design c.requires.opening c.requires.before)
 
 pub returns-in_err-events-clause-means : goal.returns-in_err-events-clause-means
@@ -26,6 +26,6 @@ returns-in_err-events-clause-means c =
     let means : EventsMean c.args.groups.now c.args.design.now (texts Events) (Err c.in_err-events.field-0.0) =
     subst (λ bytes. EventsMean c.args.groups.now c.args.design.now bytes (Err c.in_err-events.field-0.0)) c.text_at-2.ensures c.in_err-events.ensures.means in
     subst (AllMean c.args.command c.args.top.now texts (RecordingSays texts c.args.design.now)) (sym same)
-    (refused_events c.each_text_has_one_answer.ensures c.has_one_tree.ensures c.trees_tell_designs_apart.ensures c.each_text_has_one_answer-2.ensures c.args.command c.args.top.now texts (RecordingSays texts c.args.design.now)
+    (refused_events c.each_text_has_one_design.ensures c.each_text_has_one_answer.ensures c.args.command c.args.top.now texts (RecordingSays texts c.args.design.now)
     c.each_recording_has_one_answer.ensures c.args.design.now c.args.groups.now c.in_err-events.field-0.0 means c.requires.design c.requires.groups c.requires.events
     (before_events c.args.command c.args.top.now texts c.args.design.now c.in_ok-opening.opening c.requires.design opening c.requires.before))

@@ -2,20 +2,13 @@ use Rattle.std.proofs.Common.{subst}
 use Rattle.design_core.specs.declared.parts.Parts.{Parts}
 use Rattle.emu_machine.specs.Acceptance.{Case}
 use Rattle.emu_app.specs.declared.command.Command.TheVariants.{Replay}
-use Rattle.emu_app.specs.declared.what.What.TheVariants.{Design}
 use Rattle.emu_app.specs.Answers.{ReplayMeans, TraceMeans}
 use Rattle.emu_app.specs.Fetching.{Texts, texts_of}
-use Rattle.emu_app.specs.Forms.{SaysDesign}
 use Rattle.emu_app.specs.Reading.{ReplayedSays, StandForOneReplay, case_of}
 use Rattle.emu_app.specs.Runs.{IsRun, IsUnfit}
 use Rattle.emu_app.proofs.Comes.{comes_as}
 use Rattle.emu_app.proofs.Replaying.{events_fit, one_replay, run_means, unfit_means}
 use Rattle.emu_app.proofs.replay.replay_ranked.Goals as goal
-
-pub replay_case-requires-clause-plain : goal.replay_case-requires-clause-plain
-replay_case-requires-clause-plain g c =
-    let says : SaysDesign c.args.top.now (texts_of Replay c.args.texts.now Design) c.args.ranked.now.design = c.requires.says.design in
-    c.gate_designs_are_plain.ensures (texts_of Replay c.args.texts.now Design) says.tokens says.tree c.args.top.now c.args.ranked.now.design says.describes
 
 pub replay_case-requires-clause-events : goal.replay_case-requires-clause-events
 replay_case-requires-clause-events g c =
