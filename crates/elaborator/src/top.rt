@@ -1,6 +1,6 @@
 //! From the tree of a text to the design that it describes.
 
-ghost use Rattle.std.specs.Prelude.{◌≡◌, IfOk, Ok, OnOk, map};
+ghost use Rattle.std.specs.Prelude.{◌≡◌, IfOk, Ok, OnOk, map, true};
 ghost use Rattle.module_bits.specs.Names.{AreNumbered};
 ghost use Rattle.module_nets.specs.Names.{is_among};
 ghost use Rattle.verilog_lex.specs.Reads.{Reads};
