@@ -1,0 +1,5 @@
+pub mod Edges
+pub mod Entering
+pub mod Joining
+pub mod Coming
+pub mod Closing
