@@ -6,8 +6,6 @@
 #![tactic(auto)]
 
 mod cyclic;
-mod probe;
 mod search;
 
 pub use cyclic::least_on_cycle;
-pub use probe::one;

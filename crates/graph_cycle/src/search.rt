@@ -136,7 +136,7 @@ impl Search {
         let needs = graph.row(node);
         let at = self.next[node as usize];
         if at >= needs.len() {
-            self.work.pop();
+            drop_last(&mut self.work);
             return Ok(());
         }
         self.follow(needs[at])?;
@@ -183,7 +183,7 @@ impl Search {
         let on = turns(graph, self.stack.as_slice(), bound);
         shut(&mut self.marks, self.stack.as_slice(), bound, on);
         self.stack.truncate(bound);
-        self.bounds.pop();
+        drop_last(&mut self.bounds);
     }
 }
 
@@ -217,4 +217,11 @@ fn drop_above(bounds: &mut Vec<usize>, place: usize)
         }
         bounds.pop();
     }
+}
+
+// Drops the last number.
+fn drop_last(numbers: &mut Vec<usize>)
+    ensures { let old = numbers.old.items in numbers.new.items ≡ take (length old - 1) old }
+{
+    numbers.pop();
 }
