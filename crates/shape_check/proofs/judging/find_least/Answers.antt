@@ -32,10 +32,10 @@ pub returns-in-A9 : goal.returns-in-A9
 returns-in-A9 c = finds_told c.args.case.now A9 c.args.rule c.find_a9.result c.in-A9.is (λ inside. c.find_a9.ensures)
 
 pub find_a5-requires : goal.find_a5-requires
-find_a5-requires c = granted c.args.case.now c.args.rule A5 4 c.requires.before c.in-A5.is (omega arith) A4 refl
+find_a5-requires c = record { frames = granted c.args.case.now c.args.rule A5 4 c.requires.before c.in-A5.is (omega arith) A4 refl }
 
 pub find_a8-requires : goal.find_a8-requires
-find_a8-requires c = granted c.args.case.now c.args.rule A8 4 c.requires.before c.in-A8.is (omega arith) A4 refl
+find_a8-requires c = record { frames = granted c.args.case.now c.args.rule A8 4 c.requires.before c.in-A8.is (omega arith) A4 refl }
 
 pub find_a6-requires-clause-chips : goal.find_a6-requires-clause-chips
 find_a6-requires-clause-chips c = granted c.args.case.now c.args.rule A6 1 c.requires.before c.in-A6.is (omega arith) A1 refl
