@@ -8,3 +8,5 @@ pub mod Parts
 pub mod Marking
 pub mod Lost
 pub mod Granted
+pub mod Ordered
+pub mod Turning

@@ -5,3 +5,4 @@ pub mod Tables
 pub mod Ports
 pub mod Frames
 pub mod Mapped
+pub mod Verdict

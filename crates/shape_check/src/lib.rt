@@ -1,5 +1,7 @@
-//! The rules of acceptance A1, A3 to A9, judged of any results of any design, groups and board. The rule
-//! A2, and those from A10 on, are not judged here.
+//! The rules of acceptance A1 to A9, judged of any results of any design, groups and board.
+//!
+//! `judge_shape` answers that results are accepted exactly where all nine rules hold, and else that they are
+//! rejected, with the first rule that fails and its least place. The rules from A10 on are not judged here.
 //!
 //! Each rule has a function that names the least place at which the rule fails, or says that it holds
 //! (`specs/Least.antt` of `use_check`). Where a rule is asked of what an earlier one already grants, that the earlier rule
@@ -8,9 +10,11 @@
 
 mod actions;
 mod chips;
+mod cycles;
 mod fitting;
 mod frames;
 mod gates;
+mod judging;
 mod mapped;
 mod memories;
 mod registers;
@@ -18,13 +22,17 @@ mod shape_case;
 mod tables;
 mod unmapped;
 mod using;
+mod verdict;
 mod weights;
 
 pub use actions::{find_a5, find_a8};
 pub use chips::find_a1;
+pub use cycles::find_a2;
 pub use fitting::find_a7;
 pub use frames::find_a4;
+pub use judging::judge_shape;
 pub use shape_case::ShapeCase;
 pub use unmapped::find_a9;
 pub use using::find_a6;
+pub use verdict::{Verdict, first_is_first_failure};
 pub use weights::find_a3;
