@@ -1,0 +1,4 @@
+pub mod Bounds
+pub mod Gates
+pub mod Inside
+pub mod Readers
