@@ -1,0 +1,4 @@
+mod Members
+mod Woken
+mod Taken
+mod Turns

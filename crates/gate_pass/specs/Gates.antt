@@ -54,7 +54,7 @@ pub record HasTaken {T : Type 0} (none : T) (n : ℕ) (value : T) (old new : Pas
   pub outputs : new.outputs ≡ old.outputs
   pub values : new.values ≡ slice_set old.values n value
   pub gates : length new.idle ≡ length old.idle
-  pub woken : (k : ℕ) → Contains (row old.inputs k) n → value_in none old.values n ≢ value → is_set new.idle k ≡ false
+  pub woken : (k : ℕ) → Contains (row old.inputs k) n → (is_set new.idle k ≡ false) ⊎ (value_in none old.values n ≡ value)
   pub still : (k : ℕ) → is_set old.idle k ≡ false → is_set new.idle k ≡ false
   pub only : (k : ℕ) → is_set new.idle k ≡ false → (is_set old.idle k ≡ false) ⊎ (Contains (row old.inputs k) n × (value_in none old.values n ≢ value))
 

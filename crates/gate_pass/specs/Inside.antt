@@ -1,5 +1,5 @@
 -- Inside: what a pass keeps, and where it stands between two turns.
-use Rattle.std.specs.Prelude.{◌≡◌, ◌≢◌, ◌⊎◌, ℕ, ◌+◌, ◌<◌, ◌≤◌, Bool, true, false, List, [], ◌∷◌, length, slice_index, slice_set, Contains}
+use Rattle.std.specs.Prelude.{◌≡◌, ◌≢◌, ◌⊎◌, ℕ, ◌+◌, ◌<◌, ◌≤◌, Bool, true, false, List, [], ◌∷◌, Some, length, slice_get, slice_index, slice_set, Contains}
 use Rattle.link_rows.specs.BitRows.{is_set}
 use Rattle.graph_rank.specs.Rows.{row}
 use Rattle.gate_pass.specs.Gates.{PassState, AreRanked, IsFree, value_in, given, OthersWait, HasTaken, IsDue, WereDue}
@@ -10,6 +10,13 @@ pub record IsPass {T : Type 0} (inputs : List (List ℕ)) (outputs : List ℕ) (
   pub ranked : AreRanked (length values) inputs outputs
   pub read : AreReaders (length values) inputs readers
   pub gates : length idle ≡ length outputs
+
+-- the gates before a place of a list wait, and otherwise just those that waited and some of the list
+pub record AreWokenTo (gates : List ℕ) (place : ℕ) (old new : List Bool) : Type 0 where
+  pub size : length new ≡ length old
+  pub woken : (j k : ℕ) → j < place → slice_get gates j ≡ Some k → is_set new k ≡ false
+  pub still : (k : ℕ) → is_set old k ≡ false → is_set new k ≡ false
+  pub only : (k : ℕ) → is_set new k ≡ false → (is_set old k ≡ false) ⊎ Contains gates k
 
 -- the gates of a list wait, and otherwise just those that waited
 pub record AreWoken (gates : List ℕ) (old new : List Bool) : Type 0 where

@@ -1,5 +1,5 @@
 //! A pass over gates by change.
-ghost use Rattle.std.specs.Prelude.{◌≡◌, ◌+◌, ◌<◌, ◌≤◌, ℕ, false, true, length, replicate, slice_set, slice_index, Contains, IfOk, List};
+ghost use Rattle.std.specs.Prelude.{◌≡◌, ◌+◌, ◌<◌, ◌≤◌, ◌^◌, ℕ, false, true, length, replicate, slice_set, slice_index, Contains, IfOk, List};
 ghost use Rattle.link_rows.specs.BitRows.{is_set, IsFirstClear};
 ghost use Rattle.graph_rank.specs.Rows.{row};
 ghost use Rattle.gate_pass.specs.Gates.{AreRanked, HasSettled, HasTaken, IsFree, NoneWaits, OthersWait, WereDue, value_in};
@@ -146,6 +146,7 @@ impl<T: NetValue> GatePass<T> {
         requires { at ≤ length self.now.outputs }
         ensures waits { IsFirstClear self.now.idle at result }
         ensures gates { length self.now.idle ≡ length self.now.outputs }
+        ensures few { length self.now.outputs < 2 ^ 32 }
         ensures ranked { AreRanked (length self.now.values) self.now.inputs self.now.outputs }
     {
         self.waiting.next(at)

@@ -1,5 +1,5 @@
 //! Which gates wait: a bit for each gate in ranked order, which is clear where the gate waits.
-ghost use Rattle.std.specs.Prelude.{◌≡◌, ◌<◌, ◌≤◌, ℕ, true, false, length, replicate, slice_set, IfOk};
+ghost use Rattle.std.specs.Prelude.{◌≡◌, ◌<◌, ◌≤◌, ◌^◌, ℕ, true, false, length, replicate, slice_set, IfOk};
 ghost use Rattle.link_rows.specs.BitRows.{is_set, IsFirstClear};
 
 use emu_io::NoMemory;
@@ -11,6 +11,7 @@ use std::marker::Model;
 #[derive(Drop)]
 pub(crate) struct Waiting {
     idle: BitRows,
+    gates: u32,
     // all gates before the first and after the last are idle
     first: u32,
     last: u32,
@@ -25,7 +26,7 @@ impl Model for Waiting {
 
     ghost view = { λ waiting. bits_at waiting.idle 0 };
 
-    ghost invariant = { λ waiting. AreBounds waiting.idle waiting.first waiting.last };
+    ghost invariant = { λ waiting. AreBounds waiting.idle waiting.gates waiting.first waiting.last };
 }
 
 impl Waiting {
@@ -35,6 +36,7 @@ impl Waiting {
     {
         Ok(Waiting {
             idle: BitRows::new(alloc, 1, gates)?,
+            gates,
             first: 0,
             last: gates,
         })
@@ -61,10 +63,11 @@ impl Waiting {
     /// The first gate from a place on that waits.
     pub(crate) fn next(&self, at: u32) -> Option<u32>
         requires { at ≤ length self.now }
-        ensures { IsFirstClear self.now at result }
+        ensures first { IsFirstClear self.now at result }
+        ensures few { length self.now < 2 ^ 32 }
     {
         let at = at.max(self.first);
-        if at > self.last {
+        if at >= self.gates || at > self.last {
             return None;
         }
         self.idle.first_clear_from(0, at)
@@ -75,7 +78,7 @@ impl Waiting {
         requires { (k : ℕ) → k < length self.old → is_set self.old k ≡ true }
         ensures { self.new ≡ self.old }
     {
-        self.first = self.idle.width();
+        self.first = self.gates;
         self.last = 0;
     }
 }

@@ -1,0 +1,56 @@
+-- A net takes a value, and a gate has its turn.
+use Rattle.std.proofs.Common.{◌≡◌, ℕ, ◌<◌, Bool, true, false, List, length, map, set, get_or, refl, sym, ap, subst, ◌∙◌, inl, inr}
+use Rattle.std.specs.Prelude.{◌⊎◌, ◌≢◌, Some, slice_get, slice_index, Contains}
+use Rattle.std.proofs.lemmas.List.{set-get_or}
+use Rattle.link_rows.specs.BitRows.{is_set}
+use Rattle.graph_rank.specs.Rows.{row}
+use Rattle.gate_pass.specs.Gates.{PassState, HasTaken, value_in, given}
+use Rattle.gate_pass.specs.Inside.{AreWoken, HasHadTurn, rested}
+use Rattle.gate_pass.specs.Readers.{AreReaders}
+
+module _ {T : Type 0} (none : T) where
+  -- a net takes the value that it has
+  pub takes_same : (n : ℕ) (value : T) (s : PassState T) → value_in none s.values n ≡ value → HasTaken none n value s s
+  takes_same n value s same =
+      record {
+        inputs = refl;
+        outputs = refl;
+        values = sym (set-get_or s.values n none) ∙ ap (set s.values n) same;
+        gates = refl;
+        woken = λ k read. inr same;
+        still = λ k waits. waits;
+        only = λ k waits. inl waits;
+      }
+
+  -- a net takes another value, and its readers are woken
+  pub takes_other : (inputs : List (List ℕ)) (outputs : List ℕ) (readers : List (List ℕ)) (values after : List T) (idle woken : List Bool) (n : ℕ) (value : T) (s : PassState T)
+      → record { inputs = inputs; outputs = outputs; values = values; idle = idle } ≡ s
+      → n < length values → AreReaders (length values) inputs readers → value_in none values n ≢ value
+      → after ≡ set values n value → AreWoken (row readers n) idle woken
+      → HasTaken none n value s (record { inputs = inputs; outputs = outputs; values = after; idle = woken })
+  takes_other inputs outputs readers values after idle woken n value s view low read other set_to are =
+      subst (λ (old : PassState T). HasTaken none n value old (record { inputs = inputs; outputs = outputs; values = after; idle = woken })) view
+      (record {
+        inputs = refl;
+        outputs = refl;
+        values = set_to;
+        gates = are.size;
+        woken = λ k reads. inl (are.woken k ((read.each n k low).1 reads));
+        still = are.still;
+        only = λ k waits. elim (are.only k waits) [ inl was ↦ inl was | inr reads ↦ inr ((read.each n k low).0 reads, other) ];
+      })
+
+  -- a gate rests, and then its net takes what it gives
+  pub has_had_turn : (gives : ℕ → List T → T) (inputs : List (List ℕ)) (outputs : List ℕ) (values : List T) (idle rests : List Bool) (k n : ℕ) (value : T) (s new : PassState T)
+      → record { inputs = inputs; outputs = outputs; values = values; idle = idle } ≡ s
+      → n ≡ slice_index outputs k → value ≡ given gives none inputs values k → rests ≡ set idle k true
+      → HasTaken none n value (record { inputs = inputs; outputs = outputs; values = values; idle = rests }) new
+      → HasHadTurn gives none k s new
+  has_had_turn gives inputs outputs values idle rests k n value s new view net is rest h =
+      let begun : PassState T = record { inputs = inputs; outputs = outputs; values = values; idle = rests } in
+      let h1 : HasTaken none (slice_index outputs k) value begun new = subst (λ (m : ℕ). HasTaken none m value begun new) net h in
+      let h2 : HasTaken none (slice_index outputs k) (given gives none inputs values k) begun new =
+          subst (λ (v : T). HasTaken none (slice_index outputs k) v begun new) is h1 in
+      let h3 : HasTaken none (slice_index outputs k) (given gives none inputs values k) (record { inputs = inputs; outputs = outputs; values = values; idle = set idle k true }) new =
+          subst (λ (b : List Bool). HasTaken none (slice_index outputs k) (given gives none inputs values k) (record { inputs = inputs; outputs = outputs; values = values; idle = b }) new) rest h2 in
+      subst (λ (t : PassState T). HasHadTurn gives none k t new) view h3
