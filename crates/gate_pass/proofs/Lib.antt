@@ -2,3 +2,4 @@ mod Members
 mod Woken
 mod Taken
 mod Turns
+pub mod Chains

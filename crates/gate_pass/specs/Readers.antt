@@ -35,12 +35,18 @@ pub record AreChains (inputs : List (List ℕ)) (count : ℕ) (last : List (Opti
   pub linked : AreLinked nets last pins
   pub pinned : (k n : ℕ) → HasPin nets pins k n ↔ ((k < count) × Contains (row inputs k) n)
 
--- the gates of some pins that read a net: all of those after a place
+-- the place stands after another, if there is one
 abbrev pub IsAfter : Option ℕ → ℕ → Type 0
 IsAfter None p = Unit {0}
 IsAfter (Some at) p = at < p
 
--- gates that read the net, those of all its pins after a place among them
+-- gates that read the net, those of all its pins after a place among them; a pin of the net stands at that place
 pub record AreFound (pins : List Pin) (nets : List ℕ) (n : ℕ) (at : Option ℕ) (gates : List ℕ) : Type 0 where
   pub only : (k : ℕ) → Contains gates k → HasPin nets pins k n
-  pub all : (p : ℕ) (pin : Pin) → slice_get pins p ≡ Some pin → slice_index nets p ≡ n → IsAfter at p → Contains gates pin.gate
+  pub late : (p : ℕ) (pin : Pin) → slice_get pins p ≡ Some pin → slice_index nets p ≡ n → IsAfter at p → Contains gates pin.gate
+  pub here : (p : ℕ) → at ≡ Some p → (p < length pins) × (slice_index nets p ≡ n)
+
+-- for the nets before a place the gates that read them
+pub record AreFirstReaders (count : ℕ) (inputs readers : List (List ℕ)) : Type 0 where
+  pub count_is : length readers ≡ count
+  pub each : (n k : ℕ) → n < count → Contains (row readers n) k ↔ Contains (row inputs k) n

@@ -38,6 +38,7 @@ pub(crate) fn readers_of(alloc: Global, inputs: &Graph, nets: u32) -> Result<Gra
 }
 
 /// The pins of all gates, linked for each net.
+#[tactic(auto, using(crate::proofs::Chains::no_chains))]
 fn chains_of(alloc: Global, inputs: &Graph, nets: u32) -> Result<Chains, NoMemory>
     requires { (k n : ℕ) → Contains (row inputs.now k) n → n < nets }
     ensures nets { IfOk result (λ chains. length chains.last.items ≡ nets) }
@@ -83,7 +84,8 @@ impl Chains {
 
     /// Makes a list the gates of the pins that read a net.
     fn fill(&self, net: u32, gates: &mut Vec<u32>) -> Result<(), NoMemory>
-        requires { net < length self.now.last.items }
+        requires there { net < length self.now.last.items }
+        requires linked { (all : List ℕ) × AreLinked all self.now.last.items self.now.pins.items }
         ensures { OnOk result ((all : List ℕ) → AreLinked all self.now.last.items self.now.pins.items
             → (k : ℕ) → Contains gates.new.items k ↔ HasPin all self.now.pins.items k net) }
     {
