@@ -3,3 +3,4 @@ mod Woken
 mod Taken
 mod Turns
 pub mod Chains
+mod Unique

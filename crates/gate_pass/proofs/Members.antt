@@ -1,13 +1,19 @@
--- What a list contains.
-use Rattle.std.proofs.Common.{◌≡◌, ℕ, zero, suc, ◌<◌, arith, Bool, true, false, List, [], ◌∷◌, length, get_or, map, refl, sym, ap, subst, ◌∙◌, inl, inr}
+-- What a list contains, and what a gate makes of it.
+use Rattle.std.proofs.Common.{◌≡◌, ℕ, zero, suc, ◌<◌, arith, Bool, true, false, List, [], ◌∷◌, length, get_or, set, map, refl, sym, ap, subst, ◌∙◌, inl, inr}
 use Rattle.std.specs.Prelude.{◌⊎◌, Contains}
 use Rattle.std.proofs.lemmas.Bool.{cases_eq, cases_lt}
-use Rattle.std.proofs.lemmas.List.{get_or_past}
+use Rattle.std.proofs.lemmas.List.{get_or_past, get_or-set_other}
 use Rattle.facts.proofs.Tests.{no}
 use Rattle.graph_rank.specs.Rows.{row}
+use Rattle.gate_pass.specs.Gates.{given, value_in}
 
 pub not_both : {A : Type 0} (b : Bool) → b ≡ true → b ≡ false → A
 not_both b up down = no (sym down ∙ up)
+
+-- a bit is set or clear
+pub set_or_clear : (b : Bool) → (b ≡ true) ⊎ (b ≡ false)
+set_or_clear true = inl refl
+set_or_clear false = inr refl
 
 pub contains_head : {X : Type 0} (x : X) (xs : List X) → Contains (x ∷ xs) x
 contains_head x xs = (0, omega arith, refl)
@@ -50,3 +56,11 @@ row_there rows k n h =
       inl low ↦ low
     | inr past ↦ absurd (empty_contains n (subst (λ (xs : List ℕ). Contains xs n) (get_or_past rows k [] past) h))
     ]
+
+-- what a gate gives does not change with a net that it does not read
+pub unread : {T : Type 0} (gives : ℕ → List T → T) (none : T) (inputs : List (List ℕ)) (values : List T) (n : ℕ) (value : T) (k : ℕ) → (Contains (row inputs k) n → ⊥)
+    → given gives none inputs (set values n value) k ≡ given gives none inputs values k
+unread gives none inputs values n value k not_read =
+    ap (gives k)
+    (same_images (value_in none (set values n value)) (value_in none values) (row inputs k)
+    (λ m has. get_or-set_other values n m value none (λ same. not_read (subst (Contains (row inputs k)) same has))))

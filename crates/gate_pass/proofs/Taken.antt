@@ -1,12 +1,13 @@
 -- A net takes a value, and a gate has its turn.
 use Rattle.std.proofs.Common.{◌≡◌, ℕ, ◌<◌, Bool, true, false, List, length, map, set, get_or, refl, sym, ap, subst, ◌∙◌, inl, inr}
 use Rattle.std.specs.Prelude.{◌⊎◌, ◌≢◌, Some, slice_get, slice_index, Contains}
-use Rattle.std.proofs.lemmas.List.{set-get_or}
+use Rattle.std.proofs.lemmas.List.{set-get_or, get_or-set_other}
 use Rattle.link_rows.specs.BitRows.{is_set}
 use Rattle.graph_rank.specs.Rows.{row}
-use Rattle.gate_pass.specs.Gates.{PassState, HasTaken, value_in, given}
+use Rattle.gate_pass.specs.Gates.{PassState, HasTaken, IsFree, OthersWait, value_in, given}
 use Rattle.gate_pass.specs.Inside.{AreWoken, HasHadTurn, rested}
 use Rattle.gate_pass.specs.Readers.{AreReaders}
+use Rattle.gate_pass.proofs.Members.{contains_or_not, not_both, set_or_clear, unread}
 
 module _ {T : Type 0} (none : T) where
   -- a net takes the value that it has
@@ -39,6 +40,30 @@ module _ {T : Type 0} (none : T) where
         still = are.still;
         only = λ k waits. elim (are.only k waits) [ inl was ↦ inl was | inr reads ↦ inr ((read.each n k low).0 reads, other) ];
       })
+
+  -- a net that no gate drives takes a value, and each gate that does not hold waits still
+  pub taken_others : (gives : ℕ → List T → T) (n : ℕ) (value : T) (old new : PassState T) → IsFree old.outputs n → HasTaken none n value old new
+      → OthersWait gives none old → OthersWait gives none new
+  taken_others gives n value old new free taken hold k low idle =
+      let low_old : k < length old.outputs = subst (λ (o : List ℕ). k < length o) taken.outputs low in
+      let idle_old : is_set old.idle k ≡ true =
+          elim (set_or_clear (is_set old.idle k)) [ inl yes_it ↦ yes_it | inr waits ↦ not_both (is_set new.idle k) idle (taken.still k waits) ] in
+      let same : given gives none old.inputs (set old.values n value) k ≡ given gives none old.inputs old.values k =
+          elim (contains_or_not (row old.inputs k) n) [
+            inr not_read ↦ unread gives none old.inputs old.values n value k not_read
+          | inl read ↦ elim (taken.woken k read) [
+                inl waits ↦ not_both (is_set new.idle k) idle waits
+              | inr is ↦ ap (λ (v : T). given gives none old.inputs (set old.values n v) k) (sym is)
+                  ∙ ap (λ (v : List T). given gives none old.inputs v k) (set-get_or old.values n none)
+              ]
+          ] in
+      ap (value_in none new.values) (ap (λ (o : List ℕ). slice_index o k) taken.outputs)
+      ∙ ap (λ (v : List T). value_in none v (slice_index old.outputs k)) taken.values
+      ∙ get_or-set_other old.values n (slice_index old.outputs k) value none (free k low_old)
+      ∙ hold k low_old idle_old
+      ∙ sym same
+      ∙ ap (λ (v : List T). given gives none old.inputs v k) (sym taken.values)
+      ∙ ap (λ (i : List (List ℕ)). given gives none i new.values k) (sym taken.inputs)
 
   -- a gate rests, and then its net takes what it gives
   pub has_had_turn : (gives : ℕ → List T → T) (inputs : List (List ℕ)) (outputs : List ℕ) (values : List T) (idle rests : List Bool) (k n : ℕ) (value : T) (s new : PassState T)

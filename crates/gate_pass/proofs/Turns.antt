@@ -7,22 +7,9 @@ use Rattle.link_rows.specs.BitRows.{is_set, IsFirstClear}
 use Rattle.graph_rank.specs.Rows.{row}
 use Rattle.gate_pass.specs.Gates.{PassState, AreRanked, IsFree, value_in, given, Holds, OthersWait, NoneWaits, HasTaken, HasSettled, IsDue, WereDue}
 use Rattle.gate_pass.specs.Inside.{HasHadTurn, IsUnderWay, HaveCounted, rested}
-use Rattle.gate_pass.proofs.Members.{contains_head, contains_tail, head_or_tail, empty_contains, contains_or_not, same_images, not_both}
-
--- a bit is set or clear
-set_or_clear : (b : Bool) → (b ≡ true) ⊎ (b ≡ false)
-set_or_clear true = inl refl
-set_or_clear false = inr refl
+use Rattle.gate_pass.proofs.Members.{contains_head, contains_tail, head_or_tail, empty_contains, contains_or_not, not_both, set_or_clear, unread}
 
 module _ {T : Type 0} (gives : ℕ → List T → T) (none : T) where
-  -- what a gate gives does not change with a net that it does not read
-  unread : (inputs : List (List ℕ)) (values : List T) (n : ℕ) (value : T) (k : ℕ) → (Contains (row inputs k) n → ⊥)
-      → given gives none inputs (set values n value) k ≡ given gives none inputs values k
-  unread inputs values n value k not_read =
-      ap (gives k)
-      (same_images (value_in none (set values n value)) (value_in none values) (row inputs k)
-      (λ m has. get_or-set_other values n m value none (λ same. not_read (subst (Contains (row inputs k)) same has))))
-
   pub none_had_turn : (s : PassState T) → OthersWait gives none s → IsUnderWay gives none s s 0
   none_had_turn s hold =
       record {
@@ -150,7 +137,7 @@ module _ {T : Type 0} (gives : ℕ → List T → T) (none : T) where
             | inr e ↦ not_both _ idle (turn.still k (rests_elsewhere k other ∙ e))
             ]
         same_given : Contains (row s.inputs k) output ⊎ (Contains (row s.inputs k) output → ⊥) → given gives none s.inputs (set s.values output value) k ≡ given gives none s.inputs s.values k
-        same_given (inr not_read) = unread s.inputs s.values output value k not_read
+        same_given (inr not_read) = unread gives none s.inputs s.values output value k not_read
         same_given (inl read) =
             elim (turn.woken k read) [
               inl waits ↦ not_both _ idle waits
@@ -163,7 +150,7 @@ module _ {T : Type 0} (gives : ℕ → List T → T) (none : T) where
             ap (value_in none new.values) (output_after ∙ ap (slice_index s.outputs) same)
             ∙ here
             ∙ ap (given gives none s.inputs s.values) (sym same)
-            ∙ sym (given_after (unread s.inputs s.values output value k own))
+            ∙ sym (given_after (unread gives none s.inputs s.values output value k own))
         go (inr other) =
             let apart : slice_index s.outputs k ≡ output → ⊥ = λ e. other (ranked.once k gate low_s low e) in
             ap (value_in none new.values) output_after

@@ -1,8 +1,8 @@
 -- Gates of a list are woken one after the other.
-use Rattle.std.proofs.Common.{◌≡◌, ℕ, ◌+◌, ◌<◌, arith, Bool, true, false, List, length, set, get_or, refl, sym, ap, ◌∙◌, inl, inr}
+use Rattle.std.proofs.Common.{◌≡◌, ℕ, ◌+◌, ◌<◌, arith, Bool, true, false, List, length, set, replicate, get_or, refl, sym, ap, ◌∙◌, inl, inr}
 use Rattle.std.specs.Prelude.{◌⊎◌, Some, slice_get, Contains}
 use Rattle.std.proofs.lemmas.Bool.{cases_eq}
-use Rattle.std.proofs.lemmas.List.{length-set, get_or-set_same, get_or-set_other}
+use Rattle.std.proofs.lemmas.List.{length-set, length-replicate, get_or-set_same, get_or-set_other, get_or-replicate, get_or_default, same_lists}
 use Rattle.std.proofs.lemmas.Option.{same_Some, slice_get_within}
 use Rattle.facts.proofs.Places.{contains_at, at_contains}
 use Rattle.link_rows.specs.BitRows.{is_set}
@@ -50,3 +50,11 @@ module _ (gates : List ℕ) (old : List Bool) where
         still = h.still;
         only = h.only;
       }
+
+-- bits of which each is clear
+pub all_clear : (bits : List Bool) (count : ℕ) → length bits ≡ count → ((k : ℕ) → k < length bits → is_set bits k ≡ false) → bits ≡ replicate count false
+all_clear bits count size clear =
+    same_lists bits (replicate count false) (size ∙ sym (length-replicate count false))
+    (λ k d low.
+      let within : k < count = omega (arith, low, size) in
+      get_or_default bits k d false low ∙ clear k low ∙ sym (get_or-replicate count k false d within))

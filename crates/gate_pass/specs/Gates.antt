@@ -84,3 +84,17 @@ pub record WereDue {T : Type 0} (none : T) (old new : PassState T) (turns : List
   pub falling : AreFalling turns
   pub there : (k : ℕ) → Contains turns k → k < length old.outputs
   pub due : (k : ℕ) → Contains turns k → IsDue none old new k
+
+-- Two tables of values for the same gates, in which every gate holds, are the same where they agree on the nets that
+-- no gate drives.
+abbrev pub ValuesAreUnique : {T : Type 0} → T → Type 0
+ValuesAreUnique {T} none =
+    (gives : ℕ → List T → T) (s t : PassState T)
+    → AreRanked (length s.values) s.inputs s.outputs
+    → t.inputs ≡ s.inputs
+    → t.outputs ≡ s.outputs
+    → length t.values ≡ length s.values
+    → ((n : ℕ) → IsFree s.outputs n → value_in none t.values n ≡ value_in none s.values n)
+    → AllHold gives none s
+    → AllHold gives none t
+    → t.values ≡ s.values

@@ -5,12 +5,14 @@
 //! every net that a gate drives has the value that its gate gives, and all others are as they were.
 #![tactic(auto)]
 
+mod laws;
 mod pass;
 mod readers;
 mod rule;
 mod steps;
 mod waiting;
 
+pub use laws::settled_values_are_unique;
 pub use pass::GatePass;
 pub use rule::{GateRule, NetValue};
 pub use steps::Steps;

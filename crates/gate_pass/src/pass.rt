@@ -53,16 +53,17 @@ impl<T: NetValue> GatePass<T> {
         value: T,
     ) -> Result<GatePass<T>, NoMemory>
         requires { AreRanked nets inputs outputs }
-        ensures { IfOk result (λ pass. pass ≡ record {
+        ensures made { IfOk result (λ pass. pass ≡ record {
           inputs = inputs;
           outputs = outputs;
           values = replicate nets value;
           idle = replicate (length outputs) false;
         }) }
+        ensures others { IfOk result (λ pass. (gives : ℕ → List T → T) → OthersWait gives T.none pass) }
     {
         let readers = readers_of(alloc, &inputs, nets)?;
         let waiting = Waiting::new(alloc, inputs.len())?;
-        let values = List::from_vec(vec![in alloc; value; nets as usize]?);
+        let values = values_of(alloc, nets, value)?;
         Ok(GatePass {
             inputs,
             outputs,
@@ -91,7 +92,8 @@ impl<T: NetValue> GatePass<T> {
     pub fn set(&mut self, net: u32, value: T)
         requires there { net < length self.old.values }
         requires free { IsFree self.old.outputs net }
-        ensures { HasTaken T.none net value self.old self.new }
+        ensures taken { HasTaken T.none net value self.old self.new }
+        ensures others { (gives : ℕ → List T → T) → OthersWait gives T.none self.old → OthersWait gives T.none self.new }
     {
         self.put(net, value);
     }
@@ -99,9 +101,18 @@ impl<T: NetValue> GatePass<T> {
     /// Lets a gate wait.
     pub fn wake(&mut self, gate: u32)
         requires { gate < length self.old.outputs }
-        ensures { self.new ≡ record self.old { idle = slice_set self.old.idle gate false } }
+        ensures woken { self.new ≡ record self.old { idle = slice_set self.old.idle gate false } }
+        ensures others { (gives : ℕ → List T → T) → OthersWait gives T.none self.old → OthersWait gives T.none self.new }
     {
         self.waiting.wake(gate);
+    }
+
+    /// Lets all gates wait, as where what gates give has changed.
+    pub fn wake_all(&mut self)
+        ensures woken { self.new ≡ record self.old { idle = replicate (length self.old.outputs) false } }
+        ensures others { (gives : ℕ → List T → T) → OthersWait gives T.none self.new }
+    {
+        self.waiting.wake_all();
     }
 
     /// Gives each gate that waits its turn, in ranked order, until none waits.
@@ -185,13 +196,24 @@ impl<T: NetValue> GatePass<T> {
     {
         if !value.is(*self.values.get(u64::from(net))) {
             self.values.set(u64::from(net), value);
-            wake_all(self.readers.row(net), &mut self.waiting);
+            wake_readers(self.readers.row(net), &mut self.waiting);
         }
     }
 }
 
+// So many nets of one value.
+fn values_of<T: NetValue>(alloc: Global, nets: u32, value: T) -> Result<List<T>, NoMemory>
+    ensures { IfOk result (λ values. values ≡ replicate nets value) }
+{
+    let mut values = Vec::with_capacity(alloc, nets as usize)?;
+    'nets: for _ in 0..nets {
+        values.push(value)?;
+    }
+    Ok(List::from_vec(values))
+}
+
 // Lets gates wait.
-fn wake_all(gates: &[u32], waiting: &mut Waiting)
+fn wake_readers(gates: &[u32], waiting: &mut Waiting)
     requires { (k : ℕ) → Contains gates.now k → k < length waiting.old }
     ensures { AreWoken gates.now waiting.old waiting.new }
 {

@@ -52,6 +52,15 @@ impl Waiting {
         self.last = self.last.max(gate);
     }
 
+    /// Lets all gates wait.
+    pub(crate) fn wake_all(&mut self)
+        ensures { self.new ≡ replicate (length self.old) false }
+    {
+        'gates: for gate in 0..self.gates {
+            self.wake(gate);
+        }
+    }
+
     /// Lets a gate wait no more.
     pub(crate) fn rest(&mut self, gate: u32)
         requires { gate < length self.old }

@@ -8,8 +8,8 @@ use Rattle.gate_pass.proofs.Members.{row_there, not_both}
 use Rattle.gate_pass.proofs.Taken.{takes_same, takes_other}
 use Rattle.gate_pass.proofs.pass.GatePass.put.Goals as goal
 
-pub wake_all-requires : goal.wake_all-requires
-wake_all-requires g c k reads =
+pub wake_readers-requires : goal.wake_readers-requires
+wake_readers-requires g c k reads =
     let low : c.args.net < length c.self.inside.values = subst (λ (s : PassState g.row.T.Denot). c.args.net < length s.values) (sym c.self.view_is) c.requires in
     let same : c.row.result.now ≡ row c.self.inside.readers c.args.net = c.row.ensures in
     let read : Contains (row c.self.inside.inputs k) c.args.net = (c.self.invariant.read.each c.args.net k low).0 (subst (λ (xs : List ℕ). Contains xs k) same reads) in
@@ -18,14 +18,14 @@ wake_all-requires g c k reads =
 pub returns-then-not-is : goal.returns-then-not-is
 returns-then-not-is g c =
     let low : c.args.net < length c.self.inside.values = subst (λ (s : PassState g.row.T.Denot). c.args.net < length s.values) (sym c.self.view_is) c.requires in
-    takes_other g.T.NetValue.none c.self.inside.inputs c.self.inside.outputs c.self.inside.readers c.self.inside.values c.set.new.self c.self.inside.waiting c.wake_all.new.waiting c.args.net c.args.value c.args.self.now
+    takes_other g.T.NetValue.none c.self.inside.inputs c.self.inside.outputs c.self.inside.readers c.self.inside.values c.set.new.self c.self.inside.waiting c.wake_readers.new.waiting c.args.net c.args.value c.args.self.now
     c.self.view_is low c.self.invariant.read
     (λ e.
       let current : value_in g.T.NetValue.none c.self.inside.values c.args.net ≡ c.get.result.now =
           get_or_from_slice_get c.self.inside.values c.args.net c.get.result.now g.T.NetValue.none (subst (λ (k : ℕ). slice_get c.self.inside.values k ≡ Some c.get.result.now) c.from.ensures c.get.ensures) in
       not_both c.is.result (c.is.ensures.1 (sym e ∙ current)) c.if-not-is.true)
     (c.set.ensures ∙ ap (λ (k : ℕ). set c.self.inside.values k c.args.value) c.from-then-not-is.ensures)
-    (subst (λ (gates : List ℕ). AreWoken gates c.self.inside.waiting c.wake_all.new.waiting) c.row.ensures c.wake_all.ensures)
+    (subst (λ (gates : List ℕ). AreWoken gates c.self.inside.waiting c.wake_readers.new.waiting) c.row.ensures c.wake_readers.ensures)
 
 pub returns-else-not-is : goal.returns-else-not-is
 returns-else-not-is g c =

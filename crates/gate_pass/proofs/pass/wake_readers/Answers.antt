@@ -3,7 +3,7 @@ use Rattle.std.specs.Prelude.{Some, slice_get, Contains}
 use Rattle.std.proofs.lemmas.List.Elements.{Contains-get_or}
 use Rattle.std.proofs.lemmas.Option.{slice_get-get_or}
 use Rattle.gate_pass.proofs.Woken.{one_woken, all_woken}
-use Rattle.gate_pass.proofs.pass.wake_all.Goals as goal
+use Rattle.gate_pass.proofs.pass.wake_readers.Goals as goal
 
 pub wake-requires : goal.wake-requires
 wake-requires c =
