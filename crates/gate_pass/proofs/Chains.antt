@@ -40,10 +40,10 @@ last_in_front : (nets : List ℕ) (net count n : ℕ) (o : Option ℕ) → count
 last_in_front nets net count n None within h =
     λ q low. λ e. h q low (sym (number_before nets net q (omega (arith, low, within))) ∙ e)
 last_in_front nets net count n (Some p) within h = (
-    h.0,
-    number_before nets net p (omega (arith, h.0, within)) ∙ h.1,
-    λ q late low. λ e. h.2 q late low (sym (number_before nets net q (omega (arith, low, within))) ∙ e),
-  )
+  h.0,
+  number_before nets net p (omega (arith, h.0, within)) ∙ h.1,
+  λ q late low. λ e. h.2 q late low (sym (number_before nets net q (omega (arith, low, within))) ∙ e),
+)
 
 -- nor with a number more that is another one
 last_with_other : (nets : List ℕ) (net n : ℕ) (o : Option ℕ) → net ≢ n → IsLast nets (length nets) n o → IsLast (nets ++ net ∷ []) (length (nets ++ net ∷ [])) n o
@@ -51,21 +51,23 @@ last_with_other nets net n o other h = go o h
   where
     size : length (nets ++ net ∷ []) ≡ length nets + 1
     size = length_push nets net
+
     not_it : (q : ℕ) → q < length (nets ++ net ∷ []) → (q < length nets → slice_index nets q ≢ n) → slice_index (nets ++ net ∷ []) q ≢ n
     not_it q low front =
         elim (cases_lt q (length nets)) [
-          inl early ↦ λ e. front early (sym (number_before nets net q early) ∙ e)
-        | inr late ↦ λ e.
-            let last : q ≡ length nets = omega (arith, low, late, size) in
-            other (sym (number_end nets net) ∙ ap (slice_index (nets ++ net ∷ [])) (sym last) ∙ e)
+          | inl early ↦ λ e. front early (sym (number_before nets net q early) ∙ e)
+          | inr late ↦ λ e.
+              let last : q ≡ length nets = omega (arith, low, late, size) in
+              other (sym (number_end nets net) ∙ ap (slice_index (nets ++ net ∷ [])) (sym last) ∙ e)
         ]
+
     go : (o : Option ℕ) → IsLast nets (length nets) n o → IsLast (nets ++ net ∷ []) (length (nets ++ net ∷ [])) n o
     go None h = λ q low. not_it q low (h q)
     go (Some p) h = (
-        omega (arith, h.0, size),
-        number_before nets net p h.0 ∙ h.1,
-        λ q late low. not_it q low (h.2 q late),
-      )
+      omega (arith, h.0, size),
+      number_before nets net p h.0 ∙ h.1,
+      λ q late low. not_it q low (h.2 q late),
+    )
 
 -- ## One pin more
 
@@ -97,18 +99,18 @@ module _ (nets : List ℕ) (last : List (Option ℕ)) (pins : List Pin) (linked 
   steps : (p : ℕ) (pin : Pin) → slice_get more p ≡ Some pin → IsLast all p (slice_index all p) pin.before
   steps p pin at =
       elim (before_or_end pins added p pin at) [
-        inl front ↦
-          let within : p < length nets = omega (arith, slice_get_within pins p pin front, linked.size) in
-          subst (λ (n : ℕ). IsLast all p n pin.before) (sym (number_before nets net p within))
-          (last_in_front nets net p (slice_index nets p) pin.before (omega (arith, within)) (linked.steps p pin front))
-      | inr e ↦
-          let here : p ≡ length nets = e.0 ∙ linked.size in
-          let is : slice_index all p ≡ net = ap (slice_index all) here ∙ number_end nets net in
-          let before : IsLast all (length nets) net (get_or last net None) =
-              last_in_front nets net (length nets) net (get_or last net None) (omega arith) (linked.ends net low) in
-          subst (λ (q : Pin). IsLast all p (slice_index all p) q.before) e.1
-          (subst (λ (n : ℕ). IsLast all p n (get_or last net None)) (sym is)
-          (subst (λ (c : ℕ). IsLast all c net (get_or last net None)) (sym here) before))
+        | inl front ↦
+            let within : p < length nets = omega (arith, slice_get_within pins p pin front, linked.size) in
+            subst (λ (n : ℕ). IsLast all p n pin.before) (sym (number_before nets net p within))
+            (last_in_front nets net p (slice_index nets p) pin.before (omega (arith, within)) (linked.steps p pin front))
+        | inr e ↦
+            let here : p ≡ length nets = e.0 ∙ linked.size in
+            let is : slice_index all p ≡ net = ap (slice_index all) here ∙ number_end nets net in
+            let before : IsLast all (length nets) net (get_or last net None) =
+            last_in_front nets net (length nets) net (get_or last net None) (omega arith) (linked.ends net low) in
+            subst (λ (q : Pin). IsLast all p (slice_index all p) q.before) e.1
+            (subst (λ (n : ℕ). IsLast all p n (get_or last net None)) (sym is)
+            (subst (λ (c : ℕ). IsLast all c net (get_or last net None)) (sym here) before))
       ]
 
   pinned : (k n : ℕ) → HasPin all more k n ↔ (HasPin nets pins k n ⊎ ((k ≡ gate) × Contains (net ∷ []) n))
@@ -117,13 +119,14 @@ module _ (nets : List ℕ) (last : List (Option ℕ)) (pins : List Pin) (linked 
       to : HasPin all more k n → HasPin nets pins k n ⊎ ((k ≡ gate) × Contains (net ∷ []) n)
       to h =
           elim (before_or_end pins added h.0 h.1 h.2) [
-            inl front ↦
-              let within : h.0 < length nets = omega (arith, slice_get_within pins h.0 h.1 front, linked.size) in
-              inl (h.0, h.1, front, h.3, sym (number_before nets net h.0 within) ∙ h.4)
-          | inr e ↦
-              let is : slice_index all h.0 ≡ net = ap (slice_index all) (e.0 ∙ linked.size) ∙ number_end nets net in
-              inr (sym h.3 ∙ sym (ap (λ (q : Pin). q.gate) e.1), subst (Contains (net ∷ [])) (sym is ∙ h.4) (contains_head net []))
+            | inl front ↦
+                let within : h.0 < length nets = omega (arith, slice_get_within pins h.0 h.1 front, linked.size) in
+                inl (h.0, h.1, front, h.3, sym (number_before nets net h.0 within) ∙ h.4)
+            | inr e ↦
+                let is : slice_index all h.0 ≡ net = ap (slice_index all) (e.0 ∙ linked.size) ∙ number_end nets net in
+                inr (sym h.3 ∙ sym (ap (λ (q : Pin). q.gate) e.1), subst (Contains (net ∷ [])) (sym is ∙ h.4) (contains_head net []))
           ]
+
       from : HasPin nets pins k n ⊎ ((k ≡ gate) × Contains (net ∷ []) n) → HasPin all more k n
       from (inl h) =
           let within : h.0 < length nets = omega (arith, slice_get_within pins h.0 h.1 h.2, linked.size) in
@@ -167,23 +170,25 @@ next_pin_more nets pins gate xs i last last' mid new low h one =
   where
     longer : take (i + 1) xs ≡ take i xs ++ get_or xs i 0 ∷ []
     longer = take_more xs i 0 low
+
     to : (k n : ℕ) → HasPin one.all_nets new k n → HasPin nets pins k n ⊎ ((k ≡ gate) × Contains (take (i + 1) xs) n)
     to k n pin =
         elim ((one.pinned k n).0 pin) [
-          inl was ↦ elim ((h.pinned k n).0 was) [
-              inl old ↦ inl old
+          | inl was ↦ elim ((h.pinned k n).0 was) [
+            | inl old ↦ inl old
             | inr e ↦ inr (e.0, subst (λ (ys : List ℕ). Contains ys n) (sym longer) (Contains-append_left (take i xs) (get_or xs i 0 ∷ []) n e.1))
-            ]
-        | inr e ↦
-            let is : get_or xs i 0 ≡ n = elim (head_or_tail (get_or xs i 0) [] n e.1) [ inl same ↦ same | inr none ↦ absurd (empty_contains n none) ] in
-            inr (e.0, subst (λ (ys : List ℕ). Contains ys n) (sym longer) (subst (Contains (take i xs ++ get_or xs i 0 ∷ [])) is (Contains-push (take i xs) (get_or xs i 0))))
+          ]
+          | inr e ↦
+              let is : get_or xs i 0 ≡ n = elim (head_or_tail (get_or xs i 0) [] n e.1) [ inl same ↦ same | inr none ↦ absurd (empty_contains n none) ] in
+              inr (e.0, subst (λ (ys : List ℕ). Contains ys n) (sym longer) (subst (Contains (take i xs ++ get_or xs i 0 ∷ [])) is (Contains-push (take i xs) (get_or xs i 0))))
         ]
+
     from : (k n : ℕ) → HasPin nets pins k n ⊎ ((k ≡ gate) × Contains (take (i + 1) xs) n) → HasPin one.all_nets new k n
     from k n (inl old) = (one.pinned k n).1 (inl ((h.pinned k n).1 (inl old)))
     from k n (inr e) =
         elim (Contains-push_cases (take i xs) (get_or xs i 0) n (subst (λ (ys : List ℕ). Contains ys n) longer e.1)) [
-          inl early ↦ (one.pinned k n).1 (inl ((h.pinned k n).1 (inr (e.0, early))))
-        | inr same ↦ (one.pinned k n).1 (inr (e.0, subst (Contains (get_or xs i 0 ∷ [])) same (contains_head (get_or xs i 0) [])))
+          | inl early ↦ (one.pinned k n).1 (inl ((h.pinned k n).1 (inr (e.0, early))))
+          | inr same ↦ (one.pinned k n).1 (inr (e.0, subst (Contains (get_or xs i 0 ∷ [])) same (contains_head (get_or xs i 0) [])))
         ]
 
 -- ## The pins of all gates
@@ -206,6 +211,7 @@ no_chains inputs nets last pins none_last no_pins =
     default_at zero n = refl
     default_at (suc m) zero = refl
     default_at (suc m) (suc n) = default_at m n
+
     default : (n : ℕ) → get_or (replicate {A = Option ℕ} nets None) n None ≡ None
     default n = default_at nets n
 
@@ -217,16 +223,17 @@ next_chains inputs gate last last' pins new h more =
     to : (k n : ℕ) → HasPin more.all_nets new k n → (k < gate + 1) × Contains (row inputs k) n
     to k n pin =
         elim ((more.pinned k n).0 pin) [
-          inl old ↦ let was = (h.pinned k n).0 old in (omega (arith, was.0), was.1)
-        | inr e ↦ (omega (arith, e.0), subst (λ (j : ℕ). Contains (row inputs j) n) (sym e.0) e.1)
+          | inl old ↦ let was = (h.pinned k n).0 old in (omega (arith, was.0), was.1)
+          | inr e ↦ (omega (arith, e.0), subst (λ (j : ℕ). Contains (row inputs j) n) (sym e.0) e.1)
         ]
+
     from : (k n : ℕ) → (k < gate + 1) × Contains (row inputs k) n → HasPin more.all_nets new k n
     from k n reads =
         elim (cases_lt k gate) [
-          inl early ↦ (more.pinned k n).1 (inl ((h.pinned k n).1 (early, reads.1)))
-        | inr late ↦
-            let same : k ≡ gate = omega (arith, reads.0, late) in
-            (more.pinned k n).1 (inr (same, subst (λ (j : ℕ). Contains (row inputs j) n) same reads.1))
+          | inl early ↦ (more.pinned k n).1 (inl ((h.pinned k n).1 (early, reads.1)))
+          | inr late ↦
+              let same : k ≡ gate = omega (arith, reads.0, late) in
+              (more.pinned k n).1 (inr (same, subst (λ (j : ℕ). Contains (row inputs j) n) same reads.1))
         ]
 
 -- ## The pins of a net
@@ -243,6 +250,7 @@ module _ (nets : List ℕ) (last : List (Option ℕ)) (pins : List Pin) (linked 
       none_late : (o : Option ℕ) → IsLast nets (length nets) n o → (p : ℕ) (pin : Pin) → slice_get pins p ≡ Some pin → slice_index nets p ≡ n → IsAfter o p → ⊥
       none_late None h p pin at is after = h p (omega (arith, slice_get_within pins p pin at, linked.size)) is
       none_late (Some q) h p pin at is after = h.2 p after (omega (arith, slice_get_within pins p pin at, linked.size)) is
+
       here : (o : Option ℕ) → IsLast nets (length nets) n o → (p : ℕ) → o ≡ Some p → (p < length pins) × (slice_index nets p ≡ n)
       here o h p e = let l : IsLast nets (length nets) n (Some p) = subst (IsLast nets (length nets) n) e h in (omega (arith, l.0, linked.size), l.1)
 
@@ -258,11 +266,14 @@ module _ (nets : List ℕ) (last : List (Option ℕ)) (pins : List Pin) (linked 
     where
       here_is : slice_index nets place ≡ n
       here_is = (h.here place refl).1
+
       step : IsLast nets place n pin.before
       step = subst (λ (m : ℕ). IsLast nets place m pin.before) here_is (linked.steps place pin at)
+
       no_between : (o : Option ℕ) → IsLast nets place n o → (p : ℕ) → p < place → slice_index nets p ≡ n → IsAfter o p → ⊥
       no_between None l p low is after = l p low is
       no_between (Some q) l p low is after = l.2 p after low is
+
       late : (p : ℕ) (other : Pin) → slice_get pins p ≡ Some other → slice_index nets p ≡ n → IsAfter pin.before p → (place < p) ⊎ (p ≤ place) → (p ≡ place) ⊎ (p ≡ place → ⊥)
           → Contains (gates ++ pin.gate ∷ []) other.gate
       late p other at_p is after (inl far) eq = Contains-append_left gates (pin.gate ∷ []) other.gate (h.late p other at_p is far)
@@ -270,6 +281,7 @@ module _ (nets : List ℕ) (last : List (Option ℕ)) (pins : List Pin) (linked 
           let pins_same : pin ≡ other = same_Some pin other (sym at ∙ ap (slice_get pins) (sym same) ∙ at_p) in
           subst (λ (q : Pin). Contains (gates ++ pin.gate ∷ []) q.gate) pins_same (Contains-push gates pin.gate)
       late p other at_p is after (inr near) (inr apart) = absurd (no_between pin.before step p (omega (arith, near, apart)) is after)
+
       here : (o : Option ℕ) → IsLast nets place n o → (p : ℕ) → o ≡ Some p → (p < length pins) × (slice_index nets p ≡ n)
       here o l p e =
           let m : IsLast nets place n (Some p) = subst (IsLast nets place n) e l in
@@ -303,6 +315,7 @@ next_readers inputs readers net gates last pins chains found h =
   where
     at_net : row (readers ++ gates ∷ []) net ≡ gates
     at_net = get_or_push readers gates [] net h.count_is
+
     each : (n k : ℕ) → n < net + 1 → (n < net) ⊎ (net ≤ n) → Contains (row (readers ++ gates ∷ []) n) k ↔ Contains (row inputs k) n
     each n k low (inl early) =
         let same : row (readers ++ gates ∷ []) n ≡ row readers n = get_or_append_left readers (gates ∷ []) [] n (omega (arith, early, h.count_is)) in

@@ -53,8 +53,8 @@ same_images f g (x ∷ xs) same =
 pub row_there : (rows : List (List ℕ)) (k n : ℕ) → Contains (row rows k) n → k < length rows
 row_there rows k n h =
     elim (cases_lt k (length rows)) [
-      inl low ↦ low
-    | inr past ↦ absurd (empty_contains n (subst (λ (xs : List ℕ). Contains xs n) (get_or_past rows k [] past) h))
+      | inl low ↦ low
+      | inr past ↦ absurd (empty_contains n (subst (λ (xs : List ℕ). Contains xs n) (get_or_past rows k [] past) h))
     ]
 
 -- what a gate gives does not change with a net that it does not read

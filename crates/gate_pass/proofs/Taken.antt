@@ -47,16 +47,16 @@ module _ {T : Type 0} (none : T) where
   taken_others gives n value old new free taken hold k low idle =
       let low_old : k < length old.outputs = subst (λ (o : List ℕ). k < length o) taken.outputs low in
       let idle_old : is_set old.idle k ≡ true =
-          elim (set_or_clear (is_set old.idle k)) [ inl yes_it ↦ yes_it | inr waits ↦ not_both (is_set new.idle k) idle (taken.still k waits) ] in
+      elim (set_or_clear (is_set old.idle k)) [ inl yes_it ↦ yes_it | inr waits ↦ not_both (is_set new.idle k) idle (taken.still k waits) ] in
       let same : given gives none old.inputs (set old.values n value) k ≡ given gives none old.inputs old.values k =
-          elim (contains_or_not (row old.inputs k) n) [
-            inr not_read ↦ unread gives none old.inputs old.values n value k not_read
-          | inl read ↦ elim (taken.woken k read) [
-                inl waits ↦ not_both (is_set new.idle k) idle waits
-              | inr is ↦ ap (λ (v : T). given gives none old.inputs (set old.values n v) k) (sym is)
-                  ∙ ap (λ (v : List T). given gives none old.inputs v k) (set-get_or old.values n none)
-              ]
-          ] in
+      elim (contains_or_not (row old.inputs k) n) [
+        | inr not_read ↦ unread gives none old.inputs old.values n value k not_read
+        | inl read ↦ elim (taken.woken k read) [
+          | inl waits ↦ not_both (is_set new.idle k) idle waits
+          | inr is ↦ ap (λ (v : T). given gives none old.inputs (set old.values n v) k) (sym is)
+              ∙ ap (λ (v : List T). given gives none old.inputs v k) (set-get_or old.values n none)
+        ]
+      ] in
       ap (value_in none new.values) (ap (λ (o : List ℕ). slice_index o k) taken.outputs)
       ∙ ap (λ (v : List T). value_in none v (slice_index old.outputs k)) taken.values
       ∙ get_or-set_other old.values n (slice_index old.outputs k) value none (free k low_old)
@@ -75,7 +75,7 @@ module _ {T : Type 0} (none : T) where
       let begun : PassState T = record { inputs = inputs; outputs = outputs; values = values; idle = rests } in
       let h1 : HasTaken none (slice_index outputs k) value begun new = subst (λ (m : ℕ). HasTaken none m value begun new) net h in
       let h2 : HasTaken none (slice_index outputs k) (given gives none inputs values k) begun new =
-          subst (λ (v : T). HasTaken none (slice_index outputs k) v begun new) is h1 in
+      subst (λ (v : T). HasTaken none (slice_index outputs k) v begun new) is h1 in
       let h3 : HasTaken none (slice_index outputs k) (given gives none inputs values k) (record { inputs = inputs; outputs = outputs; values = values; idle = set idle k true }) new =
-          subst (λ (b : List Bool). HasTaken none (slice_index outputs k) (given gives none inputs values k) (record { inputs = inputs; outputs = outputs; values = values; idle = b }) new) rest h2 in
+      subst (λ (b : List Bool). HasTaken none (slice_index outputs k) (given gives none inputs values k) (record { inputs = inputs; outputs = outputs; values = values; idle = b }) new) rest h2 in
       subst (λ (t : PassState T). HasHadTurn gives none k t new) view h3

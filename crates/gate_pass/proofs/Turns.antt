@@ -102,10 +102,10 @@ module _ {T : Type 0} (gives : ℕ → List T → T) (none : T) where
         go : ((k ≡ gate → ⊥) × (is_set s.idle k ≡ false)) ⊎ (Contains (row s.inputs k) output × (value_in none s.values output ≢ value)) → IsDue none old new k
         go (inl was) = due_stays k (h.due k low_k was.1)
         go (inr reads) = inr (
-            output,
-            subst (λ (i : List (List ℕ)). Contains (row i k) output) h.inputs reads.0,
-            λ e. reads.1 (not_driven_yet ∙ sym e ∙ here),
-          )
+          output,
+          subst (λ (i : List (List ℕ)). Contains (row i k) output) h.inputs reads.0,
+          λ e. reads.1 (not_driven_yet ∙ sym e ∙ here),
+        )
 
     below_after : (k : ℕ) → k < gate + 1 → k < length old.outputs → is_set new.idle k ≡ true
     below_after k less low_k = go (set_or_clear (is_set new.idle k))
@@ -113,6 +113,7 @@ module _ {T : Type 0} (gives : ℕ → List T → T) (none : T) where
         go_on : ((k ≡ gate → ⊥) × (is_set s.idle k ≡ false)) ⊎ (Contains (row s.inputs k) output × (value_in none s.values output ≢ value)) → is_set new.idle k ≡ true
         go_on (inl was) = not_both _ (idle_before k (omega (arith, less, was.0))) was.1
         go_on (inr reads) = absurd (omega (arith, less, ranked.later gate k low reads.0))
+
         go : (is_set new.idle k ≡ true) ⊎ (is_set new.idle k ≡ false) → is_set new.idle k ≡ true
         go (inl idle) = idle
         go (inr waits) = go_on (waits_after k waits)
@@ -122,28 +123,33 @@ module _ {T : Type 0} (gives : ℕ → List T → T) (none : T) where
       where
         low_s : k < length s.outputs
         low_s = subst (λ (o : List ℕ). k < length o) turn.outputs low_k
+
         given_after : given gives none s.inputs (set s.values output value) k ≡ given gives none s.inputs s.values k
             → given gives none new.inputs new.values k ≡ given gives none s.inputs s.values k
         given_after e =
             ap (λ (i : List (List ℕ)). given gives none i new.values k) turn.inputs
             ∙ ap (λ (v : List T). given gives none s.inputs v k) turn.values
             ∙ e
+
         output_after : slice_index new.outputs k ≡ slice_index s.outputs k
         output_after = ap (λ (o : List ℕ). slice_index o k) turn.outputs
+
         idle_then : (k ≡ gate → ⊥) → is_set s.idle k ≡ true
         idle_then other =
             elim (set_or_clear (is_set s.idle k)) [
-              inl e ↦ e
-            | inr e ↦ not_both _ idle (turn.still k (rests_elsewhere k other ∙ e))
+              | inl e ↦ e
+              | inr e ↦ not_both _ idle (turn.still k (rests_elsewhere k other ∙ e))
             ]
+
         same_given : Contains (row s.inputs k) output ⊎ (Contains (row s.inputs k) output → ⊥) → given gives none s.inputs (set s.values output value) k ≡ given gives none s.inputs s.values k
         same_given (inr not_read) = unread gives none s.inputs s.values output value k not_read
         same_given (inl read) =
             elim (turn.woken k read) [
-              inl waits ↦ not_both _ idle waits
-            | inr same ↦ ap (λ (v : T). given gives none s.inputs (set s.values output v) k) (sym same)
-                ∙ ap (λ (v : List T). given gives none s.inputs v k) (set-get_or s.values output none)
+              | inl waits ↦ not_both _ idle waits
+              | inr same ↦ ap (λ (v : T). given gives none s.inputs (set s.values output v) k) (sym same)
+                  ∙ ap (λ (v : List T). given gives none s.inputs v k) (set-get_or s.values output none)
             ]
+
         go : (k ≡ gate) ⊎ (k ≡ gate → ⊥) → Holds gives none new k
         go (inl same) =
             let own : Contains (row s.inputs k) output → ⊥ = λ read. omega (arith, same, ranked.later gate k low read) in
@@ -171,7 +177,7 @@ module _ {T : Type 0} (gives : ℕ → List T → T) (none : T) where
           later = λ k less low_k.
               let low_s : k < length s.outputs = subst (λ (o : List ℕ). k < length o) (sym h.outputs) low_k in
               let apart : slice_index old.outputs k ≡ output → ⊥ =
-                  λ e. omega (arith, less, ranked.once k gate low_s low (ap (λ (o : List ℕ). slice_index o k) h.outputs ∙ e)) in
+              λ e. omega (arith, less, ranked.once k gate low_s low (ap (λ (o : List ℕ). slice_index o k) h.outputs ∙ e)) in
               elsewhere (slice_index old.outputs k) apart ∙ h.later k (omega (arith, less, first.0)) low_k;
           below = below_after;
           hold = hold_after;

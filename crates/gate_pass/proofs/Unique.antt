@@ -11,8 +11,8 @@ use Rattle.gate_pass.proofs.Members.{contains_or_not, same_images}
 driven_or_free : (outputs : List ℕ) (n : ℕ) → ((k : ℕ) × (k < length outputs) × (slice_index outputs k ≡ n)) ⊎ IsFree outputs n
 driven_or_free outputs n =
     elim (contains_or_not outputs n) [
-      inl has ↦ inl (has.0, has.1, get_or_default outputs has.0 0 n has.1 ∙ has.2)
-    | inr none ↦ inr (λ k low e. none (k, low, get_or_default outputs k n 0 low ∙ e))
+      | inl has ↦ inl (has.0, has.1, get_or_default outputs has.0 0 n has.1 ∙ has.2)
+      | inr none ↦ inr (λ k low e. none (k, low, get_or_default outputs k n 0 low ∙ e))
     ]
 
 module _ {T : Type 0} (none : T) (gives : ℕ → List T → T) (s t : PassState T) (ranked : AreRanked (length s.values) s.inputs s.outputs)
@@ -29,13 +29,13 @@ module _ {T : Type 0} (none : T) (gives : ℕ → List T → T) (s t : PassState
       go before (inl same) =
           let low_t : k < length t.outputs = subst (λ (o : List ℕ). k < length o) (sym outputs) low in
           let reads : (n : ℕ) → Contains (row s.inputs k) n → value_in none t.values n ≡ value_in none s.values n =
-              λ n has. elim (driven_or_free s.outputs n) [
-                inl by ↦
-                  let driver : Contains (row s.inputs k) (slice_index s.outputs by.0) = subst (Contains (row s.inputs k)) (sym by.2) has in
-                  subst (λ (m : ℕ). value_in none t.values m ≡ value_in none s.values m) by.2
-                  (before by.0 (omega (arith, same, ranked.later by.0 k by.1 driver)) by.1)
-              | inr undriven ↦ free n undriven
-              ] in
+          λ n has. elim (driven_or_free s.outputs n) [
+            | inl by ↦
+                let driver : Contains (row s.inputs k) (slice_index s.outputs by.0) = subst (Contains (row s.inputs k)) (sym by.2) has in
+                subst (λ (m : ℕ). value_in none t.values m ≡ value_in none s.values m) by.2
+                (before by.0 (omega (arith, same, ranked.later by.0 k by.1 driver)) by.1)
+            | inr undriven ↦ free n undriven
+          ] in
           ap (λ (o : List ℕ). value_in none t.values (slice_index o k)) (sym outputs)
           ∙ t_holds k low_t
           ∙ ap (λ (i : List (List ℕ)). given gives none i t.values k) inputs
@@ -46,14 +46,14 @@ module _ {T : Type 0} (none : T) (gives : ℕ → List T → T) (s t : PassState
   same_values size =
       same_lists t.values s.values size
       (λ n d low.
-        let low_s : n < length s.values = omega (arith, low, size) in
-        get_or_default t.values n d none low ∙ same n ∙ get_or_default s.values n none d low_s)
+      let low_s : n < length s.values = omega (arith, low, size) in
+      get_or_default t.values n d none low ∙ same n ∙ get_or_default s.values n none d low_s)
     where
       same : (n : ℕ) → value_in none t.values n ≡ value_in none s.values n
       same n =
           elim (driven_or_free s.outputs n) [
-            inl by ↦ subst (λ (m : ℕ). value_in none t.values m ≡ value_in none s.values m) by.2 (agree (length s.outputs) by.0 by.1 by.1)
-          | inr undriven ↦ free n undriven
+            | inl by ↦ subst (λ (m : ℕ). value_in none t.values m ≡ value_in none s.values m) by.2 (agree (length s.outputs) by.0 by.1 by.1)
+            | inr undriven ↦ free n undriven
           ]
 
 pub values_are_unique : {T : Type 0} (none : T) → ValuesAreUnique none

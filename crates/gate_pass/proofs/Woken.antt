@@ -38,6 +38,7 @@ module _ (gates : List ℕ) (old : List Bool) where
             let same_gate : k ≡ gate = same_Some k gate (sym is ∙ ap (slice_get gates) same ∙ at) in
             ap (is_set (set idle gate false)) same_gate ∙ here
         woken j k less is (inr other) = still_false k (h.woken j k (omega (arith, less, other)) is)
+
         only : (k : ℕ) → is_set (set idle gate false) k ≡ false → (k ≡ gate) ⊎ (k ≡ gate → ⊥) → (is_set old k ≡ false) ⊎ Contains gates k
         only k is (inl same) = inr (contains_at gates place k (at ∙ ap Some (sym same)))
         only k is (inr other) = h.only k (sym (there k other) ∙ is)
@@ -56,5 +57,5 @@ pub all_clear : (bits : List Bool) (count : ℕ) → length bits ≡ count → (
 all_clear bits count size clear =
     same_lists bits (replicate count false) (size ∙ sym (length-replicate count false))
     (λ k d low.
-      let within : k < count = omega (arith, low, size) in
-      get_or_default bits k d false low ∙ clear k low ∙ sym (get_or-replicate count k false d within))
+    let within : k < count = omega (arith, low, size) in
+    get_or_default bits k d false low ∙ clear k low ∙ sym (get_or-replicate count k false d within))

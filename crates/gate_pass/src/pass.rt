@@ -180,12 +180,7 @@ impl<T: NetValue> GatePass<T> {
     {
         self.waiting.rest(gate);
         let output = *self.outputs.get(u64::from(gate));
-        let value = rule.value(
-            gate,
-            self.inputs.row(gate),
-            self.values.as_slice(),
-            steps,
-        );
+        let value = rule.value(gate, self.inputs.row(gate), self.values.as_slice(), steps);
         self.put(output, value);
     }
 

@@ -32,13 +32,7 @@ pub trait GateRule<T: NetValue> {
     ghost Knows: { Self → ℕ → ℕ → Type 0 };
 
     /// What a gate gives for the values of its inputs. It may count one step.
-    fn value<L: Ledger>(
-        &self,
-        gate: u32,
-        inputs: &[u32],
-        values: &[T],
-        steps: &mut Steps<L>,
-    ) -> T
+    fn value<L: Ledger>(&self, gate: u32, inputs: &[u32], values: &[T], steps: &mut Steps<L>) -> T
         requires known { Knows self.now gate (length inputs.now) }
         requires there { All (λ n. n < length values.now) inputs.now }
         ensures value { result ≡ gives self.now gate (map (value_in T.none values.now) inputs.now) }

@@ -14,7 +14,7 @@ pub gates-preserved : goal.gates-preserved
 gates-preserved c =
     let low : c.gates.gate-index < length c.args.gates.now = omega (arith, c.gates-test.true, c.gates.auto.gate-index-end) in
     let there : get_or c.args.gates.now c.gates.gate-index 0 < length c.gates.waiting =
-        omega (arith, c.gates.invariant.size, c.requires (get_or c.args.gates.now c.gates.gate-index 0) (Contains-get_or c.args.gates.now c.gates.gate-index 0 low)) in
+    omega (arith, c.gates.invariant.size, c.requires (get_or c.args.gates.now c.gates.gate-index 0) (Contains-get_or c.args.gates.now c.gates.gate-index 0 low)) in
     rw c.wake.ensures (one_woken c.args.gates.now c.args.waiting.now c.gates.gate-index (get_or c.args.gates.now c.gates.gate-index 0) (slice_get-get_or c.args.gates.now c.gates.gate-index 0 low) c.gates.waiting there c.gates.invariant)
 
 pub returns : goal.returns

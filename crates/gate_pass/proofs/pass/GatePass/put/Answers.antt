@@ -21,9 +21,9 @@ returns-then-not-is g c =
     takes_other g.T.NetValue.none c.self.inside.inputs c.self.inside.outputs c.self.inside.readers c.self.inside.values c.set.new.self c.self.inside.waiting c.wake_readers.new.waiting c.args.net c.args.value c.args.self.now
     c.self.view_is low c.self.invariant.read
     (λ e.
-      let current : value_in g.T.NetValue.none c.self.inside.values c.args.net ≡ c.get.result.now =
-          get_or_from_slice_get c.self.inside.values c.args.net c.get.result.now g.T.NetValue.none (subst (λ (k : ℕ). slice_get c.self.inside.values k ≡ Some c.get.result.now) c.from.ensures c.get.ensures) in
-      not_both c.is.result (c.is.ensures.1 (sym e ∙ current)) c.if-not-is.true)
+    let current : value_in g.T.NetValue.none c.self.inside.values c.args.net ≡ c.get.result.now =
+    get_or_from_slice_get c.self.inside.values c.args.net c.get.result.now g.T.NetValue.none (subst (λ (k : ℕ). slice_get c.self.inside.values k ≡ Some c.get.result.now) c.from.ensures c.get.ensures) in
+    not_both c.is.result (c.is.ensures.1 (sym e ∙ current)) c.if-not-is.true)
     (c.set.ensures ∙ ap (λ (k : ℕ). set c.self.inside.values k c.args.value) c.from-then-not-is.ensures)
     (subst (λ (gates : List ℕ). AreWoken gates c.self.inside.waiting c.wake_readers.new.waiting) c.row.ensures c.wake_readers.ensures)
 
@@ -31,6 +31,6 @@ pub returns-else-not-is : goal.returns-else-not-is
 returns-else-not-is g c =
     takes_same g.T.NetValue.none c.args.net c.args.value c.args.self.now
     (let current : value_in g.T.NetValue.none c.self.inside.values c.args.net ≡ c.get.result.now =
-          get_or_from_slice_get c.self.inside.values c.args.net c.get.result.now g.T.NetValue.none (subst (λ (k : ℕ). slice_get c.self.inside.values k ≡ Some c.get.result.now) c.from.ensures c.get.ensures) in
-      let same : c.args.value ≡ c.get.result.now = c.is.ensures.0 c.if-not-is.false in
-      subst (λ (s : PassState g.row.T.Denot). value_in g.T.NetValue.none s.values c.args.net ≡ c.args.value) c.self.view_is (current ∙ sym same))
+    get_or_from_slice_get c.self.inside.values c.args.net c.get.result.now g.T.NetValue.none (subst (λ (k : ℕ). slice_get c.self.inside.values k ≡ Some c.get.result.now) c.from.ensures c.get.ensures) in
+    let same : c.args.value ≡ c.get.result.now = c.is.ensures.0 c.if-not-is.false in
+    subst (λ (s : PassState g.row.T.Denot). value_in g.T.NetValue.none s.values c.args.net ≡ c.args.value) c.self.view_is (current ∙ sym same))

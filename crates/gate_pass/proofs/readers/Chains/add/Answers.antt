@@ -13,6 +13,6 @@ returns-clause-pins c all linked =
     let is_end : c.len-place.result ≡ length pins = c.len-place.ensures ∙ c.args.self.now.pins.ok.0 in
     let before : c.index-before.result.now ≡ get_or last c.args.net None = c.index-before.ensures ∙ get_or_default last c.args.net c.index-before.result.now None c.requires in
     let pushed : c.push.new.self.items ≡ pins ++ record { gate = c.args.gate; before = get_or last c.args.net None } ∷ [] =
-        c.in_ok-push.ensures.items ∙ ap (λ (b : Option ℕ). pins ++ record { gate = c.args.gate; before = b } ∷ []) before in
+    c.in_ok-push.ensures.items ∙ ap (λ (b : Option ℕ). pins ++ record { gate = c.args.gate; before = b } ∷ []) before in
     subst (HasMore all pins c.args.gate (c.args.net ∷ []) (set last c.args.net (Some c.len-place.result))) (sym pushed)
     (one_pin_more all last pins linked c.args.gate c.args.net c.len-place.result c.requires is_end)
