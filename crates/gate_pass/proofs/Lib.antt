@@ -3,4 +3,5 @@ mod Woken
 mod Taken
 mod Turns
 pub mod Chains
-mod Unique
+pub mod Unique
+pub mod Since

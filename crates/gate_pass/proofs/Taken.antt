@@ -1,15 +1,29 @@
 -- A net takes a value, and a gate has its turn.
-use Rattle.std.proofs.Common.{◌≡◌, ℕ, ◌<◌, Bool, true, false, List, length, map, set, get_or, refl, sym, ap, subst, ◌∙◌, inl, inr}
-use Rattle.std.specs.Prelude.{◌⊎◌, ◌≢◌, Some, slice_get, slice_index, Contains}
+use Rattle.std.proofs.Common.{◌≡◌, ℕ, ◌<◌, Bool, true, false, List, length, set, refl, sym, ap, subst, ◌∙◌, inl, inr}
+use Rattle.std.specs.Prelude.{◌≢◌, Some, slice_get, slice_index}
 use Rattle.std.proofs.lemmas.List.{set-get_or, get_or-set_other}
+use Rattle.std.proofs.lemmas.Option.{get_or_from_slice_get}
 use Rattle.link_rows.specs.BitRows.{is_set}
 use Rattle.graph_rank.specs.Rows.{row}
 use Rattle.gate_pass.specs.Gates.{PassState, HasTaken, IsFree, OthersWait, value_in, given}
-use Rattle.gate_pass.specs.Inside.{AreWoken, HasHadTurn, rested}
+use Rattle.gate_pass.specs.Inside.{AreWoken, HasHadTurn}
 use Rattle.gate_pass.specs.Readers.{AreReaders}
 use Rattle.gate_pass.proofs.Members.{contains_or_not, not_both, set_or_clear, unread}
 
 module _ {T : Type 0} (none : T) where
+  -- a test of two values tells whether a net has a value
+  pub has_value : (values : List T) (n k : ℕ) (value current : T) (test : Bool) → k ≡ n → slice_get values k ≡ Some current
+      → ((test ≡ true → value ≡ current) × (value ≡ current → test ≡ true)) → test ≡ true → value_in none values n ≡ value
+  has_value values n k value current test place at is passes =
+      let here : value_in none values k ≡ current = get_or_from_slice_get values k current none at in
+      ap (value_in none values) (sym place) ∙ here ∙ sym (is.0 passes)
+
+  pub has_no_value : (values : List T) (n k : ℕ) (value current : T) (test : Bool) → k ≡ n → slice_get values k ≡ Some current
+      → ((test ≡ true → value ≡ current) × (value ≡ current → test ≡ true)) → test ≡ false → value_in none values n ≢ value
+  has_no_value values n k value current test place at is fails e =
+      let here : value_in none values k ≡ current = get_or_from_slice_get values k current none at in
+      not_both test (is.1 (sym e ∙ ap (value_in none values) (sym place) ∙ here)) fails
+
   -- a net takes the value that it has
   pub takes_same : (n : ℕ) (value : T) (s : PassState T) → value_in none s.values n ≡ value → HasTaken none n value s s
   takes_same n value s same =

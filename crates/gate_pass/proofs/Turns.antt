@@ -1,13 +1,13 @@
 -- A gate has its turn: what held before it holds after it, with one gate more.
-use Rattle.std.proofs.Common.{◌≡◌, ℕ, ◌+◌, ◌<◌, ◌≤◌, arith, Bool, true, false, List, [], ◌∷◌, length, map, set, get_or, refl, sym, ap, subst, ◌∙◌, inl, inr}
-use Rattle.std.specs.Prelude.{◌⊎◌, ◌≢◌, Option, Some, None, slice_index, Contains}
+use Rattle.std.proofs.Common.{◌≡◌, ℕ, ◌+◌, ◌<◌, ◌≤◌, arith, true, false, List, [], ◌∷◌, length, set, refl, sym, ap, subst, ◌∙◌, inl, inr}
+use Rattle.std.specs.Prelude.{◌⊎◌, ◌≢◌, Some, None, slice_index, Contains}
 use Rattle.std.proofs.lemmas.Bool.{cases_eq, cases_lt}
 use Rattle.std.proofs.lemmas.List.{length-set, get_or-set_same, get_or-set_other, set-get_or}
 use Rattle.link_rows.specs.BitRows.{is_set, IsFirstClear}
 use Rattle.graph_rank.specs.Rows.{row}
-use Rattle.gate_pass.specs.Gates.{PassState, AreRanked, IsFree, value_in, given, Holds, OthersWait, NoneWaits, HasTaken, HasSettled, IsDue, WereDue}
+use Rattle.gate_pass.specs.Gates.{PassState, AreRanked, value_in, given, Holds, OthersWait, NoneWaits, HasSettled, IsDue}
 use Rattle.gate_pass.specs.Inside.{HasHadTurn, IsUnderWay, HaveCounted, rested}
-use Rattle.gate_pass.proofs.Members.{contains_head, contains_tail, head_or_tail, empty_contains, contains_or_not, not_both, set_or_clear, unread}
+use Rattle.gate_pass.proofs.Members.{head_or_tail, empty_contains, contains_or_not, not_both, set_or_clear, unread}
 
 module _ {T : Type 0} (gives : ℕ → List T → T) (none : T) where
   pub none_had_turn : (s : PassState T) → OthersWait gives none s → IsUnderWay gives none s s 0

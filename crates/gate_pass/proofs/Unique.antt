@@ -1,5 +1,5 @@
 -- Where all gates hold, the values of undriven nets fix all others: gate by gate, in ranked order.
-use Rattle.std.proofs.Common.{◌≡◌, ℕ, zero, suc, ◌+◌, ◌<◌, arith, List, length, get_or, refl, sym, ap, subst, ◌∙◌, inl, inr}
+use Rattle.std.proofs.Common.{◌≡◌, ℕ, zero, suc, ◌<◌, arith, List, length, sym, ap, subst, ◌∙◌, inl, inr}
 use Rattle.std.specs.Prelude.{◌⊎◌, slice_index, Contains}
 use Rattle.std.proofs.lemmas.Bool.{cases_eq}
 use Rattle.std.proofs.lemmas.List.{get_or_default, same_lists}
@@ -8,7 +8,7 @@ use Rattle.gate_pass.specs.Gates.{PassState, AreRanked, IsFree, AllHold, ValuesA
 use Rattle.gate_pass.proofs.Members.{contains_or_not, same_images}
 
 -- a gate drives the net, or none does
-driven_or_free : (outputs : List ℕ) (n : ℕ) → ((k : ℕ) × (k < length outputs) × (slice_index outputs k ≡ n)) ⊎ IsFree outputs n
+pub driven_or_free : (outputs : List ℕ) (n : ℕ) → ((k : ℕ) × (k < length outputs) × (slice_index outputs k ≡ n)) ⊎ IsFree outputs n
 driven_or_free outputs n =
     elim (contains_or_not outputs n) [
       | inl has ↦ inl (has.0, has.1, get_or_default outputs has.0 0 n has.1 ∙ has.2)

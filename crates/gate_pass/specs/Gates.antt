@@ -1,6 +1,6 @@
 -- Gates in ranked order, a value for each net, and which gates wait.
 -- The rule is told in docs/RULES.md, "Passes by change".
-use Rattle.std.specs.Prelude.{◌≡◌, ◌≢◌, ◌⊎◌, ℕ, ◌<◌, ◌≤◌, Bool, true, false, List, [], ◌∷◌, length, map, slice_index, slice_index_or, slice_set, Contains}
+use Rattle.std.specs.Prelude.{◌≡◌, ◌≢◌, ◌⊎◌, ℕ, ◌<◌, Bool, true, false, List, [], ◌∷◌, length, map, slice_index, slice_index_or, slice_set, Contains}
 use Rattle.link_rows.specs.BitRows.{is_set}
 use Rattle.graph_rank.specs.Rows.{row}
 

@@ -1,7 +1,6 @@
 -- Inside: what a pass keeps, and where it stands between two turns.
-use Rattle.std.specs.Prelude.{◌≡◌, ◌≢◌, ◌⊎◌, ℕ, ◌+◌, ◌<◌, ◌≤◌, Bool, true, false, List, [], ◌∷◌, Some, length, slice_get, slice_index, slice_set, Contains}
+use Rattle.std.specs.Prelude.{◌≡◌, ◌⊎◌, ℕ, ◌+◌, ◌<◌, ◌≤◌, Bool, true, false, List, Some, length, slice_get, slice_index, slice_set, Contains}
 use Rattle.link_rows.specs.BitRows.{is_set}
-use Rattle.graph_rank.specs.Rows.{row}
 use Rattle.gate_pass.specs.Gates.{PassState, AreRanked, IsFree, value_in, given, OthersWait, HasTaken, IsDue, WereDue}
 use Rattle.gate_pass.specs.Readers.{AreReaders}
 

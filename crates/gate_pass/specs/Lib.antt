@@ -2,3 +2,4 @@ pub mod Bounds
 pub mod Gates
 pub mod Inside
 pub mod Readers
+pub mod Since

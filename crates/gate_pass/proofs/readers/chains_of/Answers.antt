@@ -1,8 +1,7 @@
-use Rattle.std.proofs.Common.{◌≡◌, ◌<◌, ℕ, List, [], length, replicate, ap, subst, sym, ◌∙◌, arith}
-use Rattle.std.specs.Prelude.{Option, Some, None, Contains}
+use Rattle.std.proofs.Common.{ℕ, List, subst, ◌∙◌, arith}
+use Rattle.std.specs.Prelude.{Contains}
 use Rattle.graph_rank.specs.Rows.{row}
-use Rattle.gate_pass.specs.declared.readers.Pin.{Pin}
-use Rattle.gate_pass.specs.Readers.{AreChains, HasMore}
+use Rattle.gate_pass.specs.Readers.{HasMore}
 use Rattle.gate_pass.proofs.Chains.{next_chains}
 use Rattle.gate_pass.proofs.readers.chains_of.Goals as goal
 

@@ -1,6 +1,5 @@
 use Rattle.std.proofs.Common.{◌≡◌, ℕ, List, ◌+◌, ◌++◌, ◌∷◌, [], subst, sym, ap, ◌∙◌, arith}
-use Rattle.std.specs.Prelude.{◌↔◌, Contains}
-use Rattle.gate_pass.specs.Readers.{AreFirstReaders, HasPin}
+use Rattle.gate_pass.specs.Readers.{AreFirstReaders}
 use Rattle.gate_pass.proofs.Chains.{next_readers, all_readers}
 use Rattle.gate_pass.proofs.readers.readers_of.Goals as goal
 

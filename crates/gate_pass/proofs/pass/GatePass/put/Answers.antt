@@ -1,11 +1,10 @@
-use Rattle.std.proofs.Common.{List, ◌≡◌, ◌<◌, ℕ, length, get_or, set, sym, ap, subst, ◌∙◌, arith, true, false}
-use Rattle.std.specs.Prelude.{◌≢◌, Some, slice_get, Contains}
-use Rattle.std.proofs.lemmas.Option.{get_or_from_slice_get}
+use Rattle.std.proofs.Common.{◌≡◌, ◌<◌, ℕ, List, length, set, sym, ap, subst, ◌∙◌, arith}
+use Rattle.std.specs.Prelude.{Contains}
 use Rattle.graph_rank.specs.Rows.{row}
 use Rattle.gate_pass.specs.Gates.{value_in, PassState}
 use Rattle.gate_pass.specs.Inside.{AreWoken}
-use Rattle.gate_pass.proofs.Members.{row_there, not_both}
-use Rattle.gate_pass.proofs.Taken.{takes_same, takes_other}
+use Rattle.gate_pass.proofs.Members.{row_there}
+use Rattle.gate_pass.proofs.Taken.{has_value, has_no_value, takes_same, takes_other}
 use Rattle.gate_pass.proofs.pass.GatePass.put.Goals as goal
 
 pub wake_readers-requires : goal.wake_readers-requires
@@ -20,17 +19,12 @@ returns-then-not-is g c =
     let low : c.args.net < length c.self.inside.values = subst (λ (s : PassState g.row.T.Denot). c.args.net < length s.values) (sym c.self.view_is) c.requires in
     takes_other g.T.NetValue.none c.self.inside.inputs c.self.inside.outputs c.self.inside.readers c.self.inside.values c.set.new.self c.self.inside.waiting c.wake_readers.new.waiting c.args.net c.args.value c.args.self.now
     c.self.view_is low c.self.invariant.read
-    (λ e.
-    let current : value_in g.T.NetValue.none c.self.inside.values c.args.net ≡ c.get.result.now =
-    get_or_from_slice_get c.self.inside.values c.args.net c.get.result.now g.T.NetValue.none (subst (λ (k : ℕ). slice_get c.self.inside.values k ≡ Some c.get.result.now) c.from.ensures c.get.ensures) in
-    not_both c.is.result (c.is.ensures.1 (sym e ∙ current)) c.if-not-is.true)
+    (has_no_value g.T.NetValue.none c.self.inside.values c.args.net c.from.result c.args.value c.get.result.now c.is.result c.from.ensures c.get.ensures c.is.ensures c.if-not-is.true)
     (c.set.ensures ∙ ap (λ (k : ℕ). set c.self.inside.values k c.args.value) c.from-then-not-is.ensures)
     (subst (λ (gates : List ℕ). AreWoken gates c.self.inside.waiting c.wake_readers.new.waiting) c.row.ensures c.wake_readers.ensures)
 
 pub returns-else-not-is : goal.returns-else-not-is
 returns-else-not-is g c =
     takes_same g.T.NetValue.none c.args.net c.args.value c.args.self.now
-    (let current : value_in g.T.NetValue.none c.self.inside.values c.args.net ≡ c.get.result.now =
-    get_or_from_slice_get c.self.inside.values c.args.net c.get.result.now g.T.NetValue.none (subst (λ (k : ℕ). slice_get c.self.inside.values k ≡ Some c.get.result.now) c.from.ensures c.get.ensures) in
-    let same : c.args.value ≡ c.get.result.now = c.is.ensures.0 c.if-not-is.false in
-    subst (λ (s : PassState g.row.T.Denot). value_in g.T.NetValue.none s.values c.args.net ≡ c.args.value) c.self.view_is (current ∙ sym same))
+    (subst (λ (s : PassState g.row.T.Denot). value_in g.T.NetValue.none s.values c.args.net ≡ c.args.value) c.self.view_is
+    (has_value g.T.NetValue.none c.self.inside.values c.args.net c.from.result c.args.value c.get.result.now c.is.result c.from.ensures c.get.ensures c.is.ensures c.if-not-is.false))

@@ -1,5 +1,5 @@
-use Rattle.std.proofs.Common.{◌≡◌, ◌<◌, ◌+◌, ℕ, List, length, sym, ap, subst, ◌∙◌, arith}
-use Rattle.std.specs.Prelude.{Some, Option}
+use Rattle.std.proofs.Common.{◌≡◌, ◌<◌, length, ap, arith}
+use Rattle.std.specs.Prelude.{Some}
 use Rattle.link_rows.specs.BitRows.{IsFirstClear}
 use Rattle.gate_pass.proofs.Turns.{one_had_turn, one_counted}
 use Rattle.gate_pass.proofs.pass.GatePass.settle_counted.Goals as goal

@@ -1,10 +1,9 @@
-use Rattle.std.proofs.Common.{◌≡◌, ◌<◌, ℕ, List, length, get_or, set, map, sym, ap, subst, ◌∙◌, arith}
+use Rattle.std.proofs.Common.{◌≡◌, ◌<◌, ℕ, List, length, get_or, map, sym, ap, subst, ◌∙◌, arith}
 use Rattle.std.specs.Prelude.{Some, slice_get, slice_index, Contains}
 use Rattle.std.proofs.lemmas.Option.{get_or_from_slice_get}
 use Rattle.std.proofs.lemmas.List.Elements.{Contains-get_or}
 use Rattle.graph_rank.specs.Rows.{row}
-use Rattle.gate_pass.specs.Gates.{value_in, given, PassState, HasTaken}
-use Rattle.gate_pass.proofs.Members.{row_there}
+use Rattle.gate_pass.specs.Gates.{value_in, PassState}
 use Rattle.gate_pass.proofs.Taken.{has_had_turn}
 use Rattle.gate_pass.proofs.pass.GatePass.take_turn.Goals as goal
 

@@ -2,7 +2,7 @@ use Rattle.std.proofs.Common.{◌≡◌, ◌++◌, ◌∷◌, [], ℕ, List, ap,
 use Rattle.std.specs.Prelude.{Option, Some, None}
 use Rattle.std.proofs.lemmas.List.{get_or_default}
 use Rattle.gate_pass.specs.declared.readers.Pin.{Pin}
-use Rattle.gate_pass.specs.Readers.{AreLinked, HasMore}
+use Rattle.gate_pass.specs.Readers.{HasMore}
 use Rattle.gate_pass.proofs.Chains.{one_pin_more}
 use Rattle.gate_pass.proofs.readers.Chains.add.Goals as goal
 

@@ -1,7 +1,6 @@
-use Rattle.std.proofs.Common.{◌≡◌, ◌<◌, ◌∷◌, [], ℕ, List, length, take, get_or, ◌∙◌, arith}
-use Rattle.std.specs.Prelude.{Contains}
+use Rattle.std.proofs.Common.{◌<◌, length, take, get_or, ◌∙◌, arith}
 use Rattle.std.proofs.lemmas.List.Elements.{Contains-get_or}
-use Rattle.gate_pass.specs.Readers.{AreLinked, HasMore}
+use Rattle.gate_pass.specs.Readers.{HasMore}
 use Rattle.gate_pass.proofs.Chains.{next_pin_more}
 use Rattle.gate_pass.proofs.readers.Chains.add_gate.Goals as goal
 

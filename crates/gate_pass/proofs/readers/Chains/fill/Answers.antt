@@ -1,9 +1,8 @@
-use Rattle.std.proofs.Common.{◌≡◌, ◌<◌, ◌+◌, ◌++◌, ◌∷◌, [], ℕ, List, length, get_or, ap, subst, sym, ◌∙◌, arith}
-use Rattle.std.specs.Prelude.{Option, Some, None, slice_get}
+use Rattle.std.proofs.Common.{◌≡◌, ◌+◌, ℕ, ap, subst, sym, ◌∙◌, arith}
+use Rattle.std.specs.Prelude.{Option, Some, slice_get}
 use Rattle.std.specs.Option.{option_map_or}
 use Rattle.std.proofs.lemmas.Option.{slice_get-get_or}
-use Rattle.gate_pass.specs.declared.readers.Pin.{Pin}
-use Rattle.gate_pass.specs.Readers.{AreLinked, AreFound}
+use Rattle.gate_pass.specs.Readers.{AreFound}
 use Rattle.gate_pass.proofs.Chains.{next_found, falls, lower}
 use Rattle.gate_pass.proofs.readers.Chains.fill.Goals as goal
 

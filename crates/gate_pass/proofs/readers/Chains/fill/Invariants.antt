@@ -1,5 +1,4 @@
-use Rattle.std.proofs.Common.{◌≡◌, ◌<◌, ◌+◌, ℕ, List, length}
-use Rattle.std.specs.Prelude.{IfSome}
+use Rattle.std.proofs.Common.{◌+◌, ℕ, List}
 use Rattle.std.specs.Option.{option_map_or}
 use Rattle.gate_pass.specs.Readers.{AreLinked, AreFound}
 use Rattle.gate_pass.proofs.readers.Chains.fill.Given as goal

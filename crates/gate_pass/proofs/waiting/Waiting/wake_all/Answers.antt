@@ -1,4 +1,4 @@
-use Rattle.std.proofs.Common.{◌≡◌, ℕ, length, sym, ap, ◌∙◌, arith}
+use Rattle.std.proofs.Common.{◌≡◌, length, sym, ap, ◌∙◌, arith}
 use Rattle.gate_pass.proofs.Woken.{all_clear}
 use Rattle.gate_pass.proofs.waiting.Waiting.wake_all.Goals as goal
 
