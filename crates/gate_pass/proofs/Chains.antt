@@ -8,7 +8,7 @@ use Rattle.std.proofs.lemmas.List.Elements.{Contains-append_left, Contains-push,
 use Rattle.std.proofs.lemmas.Option.{none-some, same_Some, slice_get_within}
 use Rattle.graph_rank.specs.Rows.{row}
 use Rattle.gate_pass.specs.declared.readers.Pin.{Pin}
-use Rattle.gate_pass.specs.Readers.{AreReaders, AreFirstReaders, IsLast, AreLinked, HasPin, HasMore, AreChains, IsAfter, AreFound}
+use Rattle.gate_pass.specs.Readers.{AreReaders, AreFirstReaders, IsLastOf, AreLinked, PinReads, HasMore, AreChains, IsBehind, AreFound}
 use Rattle.gate_pass.proofs.Members.{empty_contains, contains_head, head_or_tail, row_there}
 
 -- ## Places in a list with one element more
@@ -36,7 +36,7 @@ number_end : (nets : List ℕ) (net : ℕ) → slice_index (nets ++ net ∷ []) 
 number_end nets net = get_or_push nets net 0 (length nets) refl
 
 -- the last one among the first numbers does not change with a number more
-last_in_front : (nets : List ℕ) (net count n : ℕ) (o : Option ℕ) → count ≤ length nets → IsLast nets count n o → IsLast (nets ++ net ∷ []) count n o
+last_in_front : (nets : List ℕ) (net count n : ℕ) (o : Option ℕ) → count ≤ length nets → IsLastOf nets count n o → IsLastOf (nets ++ net ∷ []) count n o
 last_in_front nets net count n None within h =
     λ q low. λ e. h q low (sym (number_before nets net q (omega (arith, low, within))) ∙ e)
 last_in_front nets net count n (Some p) within h = (
@@ -46,7 +46,7 @@ last_in_front nets net count n (Some p) within h = (
 )
 
 -- nor with a number more that is another one
-last_with_other : (nets : List ℕ) (net n : ℕ) (o : Option ℕ) → net ≢ n → IsLast nets (length nets) n o → IsLast (nets ++ net ∷ []) (length (nets ++ net ∷ [])) n o
+last_with_other : (nets : List ℕ) (net n : ℕ) (o : Option ℕ) → net ≢ n → IsLastOf nets (length nets) n o → IsLastOf (nets ++ net ∷ []) (length (nets ++ net ∷ [])) n o
 last_with_other nets net n o other h = go o h
   where
     size : length (nets ++ net ∷ []) ≡ length nets + 1
@@ -61,7 +61,7 @@ last_with_other nets net n o other h = go o h
               other (sym (number_end nets net) ∙ ap (slice_index (nets ++ net ∷ [])) (sym last) ∙ e)
         ]
 
-    go : (o : Option ℕ) → IsLast nets (length nets) n o → IsLast (nets ++ net ∷ []) (length (nets ++ net ∷ [])) n o
+    go : (o : Option ℕ) → IsLastOf nets (length nets) n o → IsLastOf (nets ++ net ∷ []) (length (nets ++ net ∷ [])) n o
     go None h = λ q low. not_it q low (h q)
     go (Some p) h = (
       omega (arith, h.0, size),
@@ -81,42 +81,42 @@ module _ (nets : List ℕ) (last : List (Option ℕ)) (pins : List Pin) (linked 
   abbrev all : List ℕ
   all = nets ++ net ∷ []
 
-  ends : (n : ℕ) → (n ≡ net) ⊎ (n ≡ net → ⊥) → n < length last → IsLast all (length all) n (get_or (set last net (Some place)) n None)
+  ends : (n : ℕ) → (n ≡ net) ⊎ (n ≡ net → ⊥) → n < length last → IsLastOf all (length all) n (get_or (set last net (Some place)) n None)
   ends n (inl same) low_n =
       let size : length all ≡ length nets + 1 = length_push nets net in
-      let here : IsLast all (length all) net (Some place) = (
+      let here : IsLastOf all (length all) net (Some place) = (
         omega (arith, size, is_end, linked.size),
         ap (slice_index all) (is_end ∙ linked.size) ∙ number_end nets net,
         λ q late low_q. absurd (omega (arith, size, is_end, linked.size, late, low_q)),
       ) in
       let there : get_or (set last net (Some place)) net None ≡ Some place = get_or-set_same last net (Some place) None low in
-      subst (λ (m : ℕ). IsLast all (length all) m (get_or (set last net (Some place)) m None)) (sym same)
-      (subst (IsLast all (length all) net) (sym there) here)
+      subst (λ (m : ℕ). IsLastOf all (length all) m (get_or (set last net (Some place)) m None)) (sym same)
+      (subst (IsLastOf all (length all) net) (sym there) here)
   ends n (inr other) low_n =
-      subst (IsLast all (length all) n) (sym (get_or-set_other last net n (Some place) None other))
+      subst (IsLastOf all (length all) n) (sym (get_or-set_other last net n (Some place) None other))
       (last_with_other nets net n (get_or last n None) (λ e. other (sym e)) (linked.ends n low_n))
 
-  steps : (p : ℕ) (pin : Pin) → slice_get more p ≡ Some pin → IsLast all p (slice_index all p) pin.before
+  steps : (p : ℕ) (pin : Pin) → slice_get more p ≡ Some pin → IsLastOf all p (slice_index all p) pin.before
   steps p pin at =
       elim (before_or_end pins added p pin at) [
         | inl front ↦
             let within : p < length nets = omega (arith, slice_get_within pins p pin front, linked.size) in
-            subst (λ (n : ℕ). IsLast all p n pin.before) (sym (number_before nets net p within))
+            subst (λ (n : ℕ). IsLastOf all p n pin.before) (sym (number_before nets net p within))
             (last_in_front nets net p (slice_index nets p) pin.before (omega (arith, within)) (linked.steps p pin front))
         | inr e ↦
             let here : p ≡ length nets = e.0 ∙ linked.size in
             let is : slice_index all p ≡ net = ap (slice_index all) here ∙ number_end nets net in
-            let before : IsLast all (length nets) net (get_or last net None) =
+            let before : IsLastOf all (length nets) net (get_or last net None) =
             last_in_front nets net (length nets) net (get_or last net None) (omega arith) (linked.ends net low) in
-            subst (λ (q : Pin). IsLast all p (slice_index all p) q.before) e.1
-            (subst (λ (n : ℕ). IsLast all p n (get_or last net None)) (sym is)
-            (subst (λ (c : ℕ). IsLast all c net (get_or last net None)) (sym here) before))
+            subst (λ (q : Pin). IsLastOf all p (slice_index all p) q.before) e.1
+            (subst (λ (n : ℕ). IsLastOf all p n (get_or last net None)) (sym is)
+            (subst (λ (c : ℕ). IsLastOf all c net (get_or last net None)) (sym here) before))
       ]
 
-  pinned : (k n : ℕ) → HasPin all more k n ↔ (HasPin nets pins k n ⊎ ((k ≡ gate) × Contains (net ∷ []) n))
+  pinned : (k n : ℕ) → PinReads all more k n ↔ (PinReads nets pins k n ⊎ ((k ≡ gate) × Contains (net ∷ []) n))
   pinned k n = (to, from)
     where
-      to : HasPin all more k n → HasPin nets pins k n ⊎ ((k ≡ gate) × Contains (net ∷ []) n)
+      to : PinReads all more k n → PinReads nets pins k n ⊎ ((k ≡ gate) × Contains (net ∷ []) n)
       to h =
           elim (before_or_end pins added h.0 h.1 h.2) [
             | inl front ↦
@@ -127,7 +127,7 @@ module _ (nets : List ℕ) (last : List (Option ℕ)) (pins : List Pin) (linked 
                 inr (sym h.3 ∙ sym (ap (λ (q : Pin). q.gate) e.1), subst (Contains (net ∷ [])) (sym is ∙ h.4) (contains_head net []))
           ]
 
-      from : HasPin nets pins k n ⊎ ((k ≡ gate) × Contains (net ∷ []) n) → HasPin all more k n
+      from : PinReads nets pins k n ⊎ ((k ≡ gate) × Contains (net ∷ []) n) → PinReads all more k n
       from (inl h) =
           let within : h.0 < length nets = omega (arith, slice_get_within pins h.0 h.1 h.2, linked.size) in
           (h.0, h.1, at_before pins (added ∷ []) h.0 h.1 h.2, h.3, number_before nets net h.0 within ∙ h.4)
@@ -149,14 +149,6 @@ module _ (nets : List ℕ) (last : List (Option ℕ)) (pins : List Pin) (linked 
 
 -- ## The pins of a gate
 
-pub no_pin_more : (nets : List ℕ) (last : List (Option ℕ)) (pins : List Pin) (gate : ℕ) → AreLinked nets last pins → HasMore nets pins gate [] last pins
-no_pin_more nets last pins gate linked =
-    record {
-      all_nets = nets;
-      linked = linked;
-      pinned = λ k n. (λ h. inl h, λ s. elim s [ inl h ↦ h | inr h ↦ absurd (empty_contains n h.1) ]);
-    }
-
 pub next_pin_more : (nets : List ℕ) (pins : List Pin) (gate : ℕ) (xs : List ℕ) (i : ℕ) (last last' : List (Option ℕ)) (mid new : List Pin) → i < length xs
     → (h : HasMore nets pins gate (take i xs) last mid)
     → HasMore h.all_nets mid gate (get_or xs i 0 ∷ []) last' new
@@ -171,7 +163,7 @@ next_pin_more nets pins gate xs i last last' mid new low h one =
     longer : take (i + 1) xs ≡ take i xs ++ get_or xs i 0 ∷ []
     longer = take_more xs i 0 low
 
-    to : (k n : ℕ) → HasPin one.all_nets new k n → HasPin nets pins k n ⊎ ((k ≡ gate) × Contains (take (i + 1) xs) n)
+    to : (k n : ℕ) → PinReads one.all_nets new k n → PinReads nets pins k n ⊎ ((k ≡ gate) × Contains (take (i + 1) xs) n)
     to k n pin =
         elim ((one.pinned k n).0 pin) [
           | inl was ↦ elim ((h.pinned k n).0 was) [
@@ -183,7 +175,7 @@ next_pin_more nets pins gate xs i last last' mid new low h one =
               inr (e.0, subst (λ (ys : List ℕ). Contains ys n) (sym longer) (subst (Contains (take i xs ++ get_or xs i 0 ∷ [])) is (Contains-push (take i xs) (get_or xs i 0))))
         ]
 
-    from : (k n : ℕ) → HasPin nets pins k n ⊎ ((k ≡ gate) × Contains (take (i + 1) xs) n) → HasPin one.all_nets new k n
+    from : (k n : ℕ) → PinReads nets pins k n ⊎ ((k ≡ gate) × Contains (take (i + 1) xs) n) → PinReads one.all_nets new k n
     from k n (inl old) = (one.pinned k n).1 (inl ((h.pinned k n).1 (inl old)))
     from k n (inr e) =
         elim (Contains-push_cases (take i xs) (get_or xs i 0) n (subst (λ (ys : List ℕ). Contains ys n) longer e.1)) [
@@ -201,7 +193,7 @@ no_chains inputs nets last pins none_last no_pins =
       nets = [];
       linked = record {
         size = refl;
-        ends = λ n low. subst (IsLast [] 0 n) (sym (default n)) (λ q none. absurd (omega (arith, none)));
+        ends = λ n low. subst (IsLastOf [] 0 n) (sym (default n)) (λ q none. absurd (omega (arith, none)));
         steps = λ p pin at. absurd (none-some pin at);
       };
       pinned = λ k n. (λ h. absurd (none-some h.1 h.2), λ h. absurd (omega (arith, h.0)));
@@ -220,14 +212,14 @@ pub next_chains : (inputs : List (List ℕ)) (gate : ℕ) (last last' : List (Op
 next_chains inputs gate last last' pins new h more =
     record { nets = more.all_nets; linked = more.linked; pinned = λ k n. (to k n, from k n) }
   where
-    to : (k n : ℕ) → HasPin more.all_nets new k n → (k < gate + 1) × Contains (row inputs k) n
+    to : (k n : ℕ) → PinReads more.all_nets new k n → (k < gate + 1) × Contains (row inputs k) n
     to k n pin =
         elim ((more.pinned k n).0 pin) [
           | inl old ↦ let was = (h.pinned k n).0 old in (omega (arith, was.0), was.1)
           | inr e ↦ (omega (arith, e.0), subst (λ (j : ℕ). Contains (row inputs j) n) (sym e.0) e.1)
         ]
 
-    from : (k n : ℕ) → (k < gate + 1) × Contains (row inputs k) n → HasPin more.all_nets new k n
+    from : (k n : ℕ) → (k < gate + 1) × Contains (row inputs k) n → PinReads more.all_nets new k n
     from k n reads =
         elim (cases_lt k gate) [
           | inl early ↦ (more.pinned k n).1 (inl ((h.pinned k n).1 (early, reads.1)))
@@ -239,21 +231,6 @@ next_chains inputs gate last last' pins new h more =
 -- ## The pins of a net
 
 module _ (nets : List ℕ) (last : List (Option ℕ)) (pins : List Pin) (linked : AreLinked nets last pins) (n : ℕ) where
-  pub none_found : n < length last → AreFound pins nets n (get_or last n None) []
-  none_found low =
-      record {
-        only = λ k has. absurd (empty_contains k has);
-        late = λ p pin at is after. absurd (none_late (get_or last n None) (linked.ends n low) p pin at is after);
-        here = λ p e. here (get_or last n None) (linked.ends n low) p e;
-      }
-    where
-      none_late : (o : Option ℕ) → IsLast nets (length nets) n o → (p : ℕ) (pin : Pin) → slice_get pins p ≡ Some pin → slice_index nets p ≡ n → IsAfter o p → ⊥
-      none_late None h p pin at is after = h p (omega (arith, slice_get_within pins p pin at, linked.size)) is
-      none_late (Some q) h p pin at is after = h.2 p after (omega (arith, slice_get_within pins p pin at, linked.size)) is
-
-      here : (o : Option ℕ) → IsLast nets (length nets) n o → (p : ℕ) → o ≡ Some p → (p < length pins) × (slice_index nets p ≡ n)
-      here o h p e = let l : IsLast nets (length nets) n (Some p) = subst (IsLast nets (length nets) n) e h in (omega (arith, l.0, linked.size), l.1)
-
   pub next_found : (place : ℕ) (pin : Pin) (gates : List ℕ) → slice_get pins place ≡ Some pin → AreFound pins nets n (Some place) gates
       → AreFound pins nets n pin.before (gates ++ pin.gate ∷ [])
   next_found place pin gates at h =
@@ -267,14 +244,14 @@ module _ (nets : List ℕ) (last : List (Option ℕ)) (pins : List Pin) (linked 
       here_is : slice_index nets place ≡ n
       here_is = (h.here place refl).1
 
-      step : IsLast nets place n pin.before
-      step = subst (λ (m : ℕ). IsLast nets place m pin.before) here_is (linked.steps place pin at)
+      step : IsLastOf nets place n pin.before
+      step = subst (λ (m : ℕ). IsLastOf nets place m pin.before) here_is (linked.steps place pin at)
 
-      no_between : (o : Option ℕ) → IsLast nets place n o → (p : ℕ) → p < place → slice_index nets p ≡ n → IsAfter o p → ⊥
+      no_between : (o : Option ℕ) → IsLastOf nets place n o → (p : ℕ) → p < place → slice_index nets p ≡ n → IsBehind o p → ⊥
       no_between None l p low is after = l p low is
       no_between (Some q) l p low is after = l.2 p after low is
 
-      late : (p : ℕ) (other : Pin) → slice_get pins p ≡ Some other → slice_index nets p ≡ n → IsAfter pin.before p → (place < p) ⊎ (p ≤ place) → (p ≡ place) ⊎ (p ≡ place → ⊥)
+      late : (p : ℕ) (other : Pin) → slice_get pins p ≡ Some other → slice_index nets p ≡ n → IsBehind pin.before p → (place < p) ⊎ (p ≤ place) → (p ≡ place) ⊎ (p ≡ place → ⊥)
           → Contains (gates ++ pin.gate ∷ []) other.gate
       late p other at_p is after (inl far) eq = Contains-append_left gates (pin.gate ∷ []) other.gate (h.late p other at_p is far)
       late p other at_p is after (inr near) (inl same) =
@@ -282,33 +259,27 @@ module _ (nets : List ℕ) (last : List (Option ℕ)) (pins : List Pin) (linked 
           subst (λ (q : Pin). Contains (gates ++ pin.gate ∷ []) q.gate) pins_same (Contains-push gates pin.gate)
       late p other at_p is after (inr near) (inr apart) = absurd (no_between pin.before step p (omega (arith, near, apart)) is after)
 
-      here : (o : Option ℕ) → IsLast nets place n o → (p : ℕ) → o ≡ Some p → (p < length pins) × (slice_index nets p ≡ n)
+      here : (o : Option ℕ) → IsLastOf nets place n o → (p : ℕ) → o ≡ Some p → (p < length pins) × (slice_index nets p ≡ n)
       here o l p e =
-          let m : IsLast nets place n (Some p) = subst (IsLast nets place n) e l in
+          let m : IsLastOf nets place n (Some p) = subst (IsLastOf nets place n) e l in
           (omega (arith, m.0, slice_get_within pins place pin at), m.1)
-
-  pub all_found : (gates : List ℕ) → AreFound pins nets n None gates → (k : ℕ) → Contains gates k ↔ HasPin nets pins k n
-  all_found gates h k = (h.only k, λ has. subst (Contains gates) has.3 (h.late has.0 has.1 has.2 has.4 tt))
 
 -- a pin stands after the one before it
 pub falls : (nets : List ℕ) (last : List (Option ℕ)) (pins : List Pin) → AreLinked nets last pins → (place : ℕ) (pin : Pin) → slice_get pins place ≡ Some pin
     → (p : ℕ) → pin.before ≡ Some p → p < place
 falls nets last pins linked place pin at p e =
-    let l : IsLast nets place (slice_index nets place) (Some p) = subst (IsLast nets place (slice_index nets place)) e (linked.steps place pin at) in l.0
+    let l : IsLastOf nets place (slice_index nets place) (Some p) = subst (IsLastOf nets place (slice_index nets place)) e (linked.steps place pin at) in l.0
 
--- the measure of the way back is lower at a lower pin
-pub lower : (o : Option ℕ) (place : ℕ) (at : Option ℕ) → option_map_or (λ (p : ℕ). p + 1) at 0 ≡ place + 1 → ((p : ℕ) → o ≡ Some p → p < place)
+-- the measure of the way back is falls_by_measure at a falls_by_measure pin
+pub falls_by_measure : (o : Option ℕ) (place : ℕ) (at : Option ℕ) → option_map_or (λ (p : ℕ). p + 1) at 0 ≡ place + 1 → ((p : ℕ) → o ≡ Some p → p < place)
     → option_map_or (λ (p : ℕ). p + 1) o 0 < option_map_or (λ (p : ℕ). p + 1) at 0
-lower None place at is below = omega (arith, is)
-lower (Some p) place at is below = omega (arith, is, below p refl)
+falls_by_measure None place at is below = omega (arith, is)
+falls_by_measure (Some p) place at is below = omega (arith, is, below p refl)
 
 -- ## The readers of all nets
 
-pub no_readers : (inputs : List (List ℕ)) → AreFirstReaders 0 inputs []
-no_readers inputs = record { count_is = refl; each = λ n k low. absurd (omega (arith, low)) }
-
 pub next_readers : (inputs readers : List (List ℕ)) (net : ℕ) (gates : List ℕ) (last : List (Option ℕ)) (pins : List Pin) → (chains : AreChains inputs (length inputs) last pins)
-    → ((k : ℕ) → Contains gates k ↔ HasPin chains.nets pins k net)
+    → ((k : ℕ) → Contains gates k ↔ PinReads chains.nets pins k net)
     → AreFirstReaders net inputs readers → AreFirstReaders (net + 1) inputs (readers ++ gates ∷ [])
 next_readers inputs readers net gates last pins chains found h =
     record { count_is = length_push readers gates ∙ ap (λ (k : ℕ). k + 1) h.count_is; each = λ n k low. each n k low (cases_lt n net) }

@@ -5,10 +5,10 @@ use Rattle.std.proofs.lemmas.Bool.{cases_eq, cases_lt}
 use Rattle.std.proofs.lemmas.List.{get_or_past, get_or-set_other}
 use Rattle.facts.proofs.Tests.{no}
 use Rattle.graph_rank.specs.Rows.{row}
-use Rattle.gate_pass.specs.Gates.{given, value_in}
+use Rattle.gate_pass.specs.Gates.{turn_gives, value_on}
 
-pub not_both : {A : Type 0} (b : Bool) → b ≡ true → b ≡ false → A
-not_both b up down = no (sym down ∙ up)
+pub never_both : {A : Type 0} (b : Bool) → b ≡ true → b ≡ false → A
+never_both b up down = no (sym down ∙ up)
 
 -- a bit is set or clear
 pub set_or_clear : (b : Bool) → (b ≡ true) ⊎ (b ≡ false)
@@ -59,8 +59,8 @@ row_there rows k n h =
 
 -- what a gate gives does not change with a net that it does not read
 pub unread : {T : Type 0} (gives : ℕ → List T → T) (none : T) (inputs : List (List ℕ)) (values : List T) (n : ℕ) (value : T) (k : ℕ) → (Contains (row inputs k) n → ⊥)
-    → given gives none inputs (set values n value) k ≡ given gives none inputs values k
+    → turn_gives gives none inputs (set values n value) k ≡ turn_gives gives none inputs values k
 unread gives none inputs values n value k not_read =
     ap (gives k)
-    (same_images (value_in none (set values n value)) (value_in none values) (row inputs k)
+    (same_images (value_on none (set values n value)) (value_on none values) (row inputs k)
     (λ m has. get_or-set_other values n m value none (λ same. not_read (subst (Contains (row inputs k)) same has))))

@@ -8,9 +8,9 @@ use Rattle.std.proofs.lemmas.List.{length-set, get_or-set_same, get_or-set_other
 use Rattle.std.proofs.lemmas.List.Sums.{sum_by-append}
 use Rattle.link_rows.specs.BitRows.{is_set}
 use Rattle.graph_rank.specs.Rows.{row}
-use Rattle.gate_pass.specs.Gates.{PassState, IsFree, NoneWaits, HasTaken, HasSettled, IsDue, WereDue, AreFalling, value_in}
+use Rattle.gate_pass.specs.Gates.{PassState, NoneDrives, NoneWaits, NetHasTaken, HasSettled, IsDue, WereDue, AreFalling, value_on}
 use Rattle.gate_pass.specs.Since.{IsSince, HasOtherInput}
-use Rattle.gate_pass.proofs.Members.{contains_head, contains_tail, head_or_tail, not_both}
+use Rattle.gate_pass.proofs.Members.{contains_head, contains_tail, head_or_tail, never_both}
 use Rattle.gate_pass.proofs.Unique.{driven_or_free}
 
 module _ {T : Type 0} (none : T) where
@@ -22,12 +22,12 @@ module _ {T : Type 0} (none : T) where
         outputs = refl;
         nets = refl;
         driven = λ k low. refl;
-        waits = λ k low waits. not_both (is_set s.idle k) (rests k low) waits;
+        waits = λ k low waits. never_both (is_set s.idle k) (rests k low) waits;
       }
 
   -- one net more is set, which had the value of then
-  pub set_since : (n : ℕ) (value : T) (old mid new : PassState T) → IsSince none old mid → n < length mid.values → IsFree mid.outputs n
-      → value_in none mid.values n ≡ value_in none old.values n → HasTaken none n value mid new → IsSince none old new
+  pub set_since : (n : ℕ) (value : T) (old mid new : PassState T) → IsSince none old mid → n < length mid.values → NoneDrives mid.outputs n
+      → value_on none mid.values n ≡ value_on none old.values n → NetHasTaken none n value mid new → IsSince none old new
   set_since n value old mid new h low free same taken =
       record {
         inputs = taken.inputs ∙ h.inputs;
@@ -37,24 +37,24 @@ module _ {T : Type 0} (none : T) where
         waits = waits;
       }
     where
-      here : value_in none new.values n ≡ value
-      here = ap (λ (v : List T). value_in none v n) taken.values ∙ get_or-set_same mid.values n value none low
+      here : value_on none new.values n ≡ value
+      here = ap (λ (v : List T). value_on none v n) taken.values ∙ get_or-set_same mid.values n value none low
 
-      elsewhere : (m : ℕ) → (m ≡ n → ⊥) → value_in none new.values m ≡ value_in none mid.values m
-      elsewhere m other = ap (λ (v : List T). value_in none v m) taken.values ∙ get_or-set_other mid.values n m value none other
+      elsewhere : (m : ℕ) → (m ≡ n → ⊥) → value_on none new.values m ≡ value_on none mid.values m
+      elsewhere m other = ap (λ (v : List T). value_on none v m) taken.values ∙ get_or-set_other mid.values n m value none other
 
-      free_old : IsFree old.outputs n
-      free_old = subst (λ (o : List ℕ). IsFree o n) h.outputs free
+      free_old : NoneDrives old.outputs n
+      free_old = subst (λ (o : List ℕ). NoneDrives o n) h.outputs free
 
       waits : (k : ℕ) → k < length old.outputs → is_set new.idle k ≡ false
-          → (m : ℕ) × IsFree old.outputs m × Contains (row old.inputs k) m × (value_in none new.values m ≢ value_in none old.values m)
+          → (m : ℕ) × NoneDrives old.outputs m × Contains (row old.inputs k) m × (value_on none new.values m ≢ value_on none old.values m)
       waits k low_k waits_now = go (taken.only k waits_now)
         where
-          go : (is_set mid.idle k ≡ false) ⊎ (Contains (row mid.inputs k) n × (value_in none mid.values n ≢ value))
-              → (m : ℕ) × IsFree old.outputs m × Contains (row old.inputs k) m × (value_in none new.values m ≢ value_in none old.values m)
+          go : (is_set mid.idle k ≡ false) ⊎ (Contains (row mid.inputs k) n × (value_on none mid.values n ≢ value))
+              → (m : ℕ) × NoneDrives old.outputs m × Contains (row old.inputs k) m × (value_on none new.values m ≢ value_on none old.values m)
           go (inl waited) =
               let w = h.waits k low_k waited in
-              let other : w.0 ≡ n → ⊥ = λ e. w.3 (ap (value_in none mid.values) e ∙ same ∙ ap (value_in none old.values) (sym e)) in
+              let other : w.0 ≡ n → ⊥ = λ e. w.3 (ap (value_on none mid.values) e ∙ same ∙ ap (value_on none old.values) (sym e)) in
               (w.0, w.1, w.2, λ e. w.3 (sym (elsewhere w.0 other) ∙ e))
           go (inr read) = (
             n,
@@ -71,8 +71,8 @@ module _ {T : Type 0} (none : T) where
       low : k < length old.outputs
       low = subst (λ (o : List ℕ). k < length o) h.outputs (were.there k has)
 
-      as_before : (n : ℕ) → IsFree old.outputs n → value_in none new.values n ≡ value_in none mid.values n
-      as_before n free = settled.free n (subst (λ (o : List ℕ). IsFree o n) (sym h.outputs) free)
+      as_before : (n : ℕ) → NoneDrives old.outputs n → value_on none new.values n ≡ value_on none mid.values n
+      as_before n free = settled.free n (subst (λ (o : List ℕ). NoneDrives o n) (sym h.outputs) free)
 
       go : IsDue none mid new k → HasOtherInput none old new k
       go (inl waited) =
@@ -80,8 +80,8 @@ module _ {T : Type 0} (none : T) where
           (w.0, w.2, λ e. w.3 (sym (as_before w.0 w.1) ∙ e))
       go (inr due) = (due.0, subst (λ (i : List (List ℕ)). Contains (row i k) due.0) h.inputs due.1, other (driven_or_free old.outputs due.0))
         where
-          other : ((j : ℕ) × (j < length old.outputs) × (slice_index old.outputs j ≡ due.0)) ⊎ IsFree old.outputs due.0 → value_in none new.values due.0 ≢ value_in none old.values due.0
-          other (inl by) = λ e. due.2 (e ∙ sym (subst (λ (m : ℕ). value_in none mid.values m ≡ value_in none old.values m) by.2 (h.driven by.0 by.1)))
+          other : ((j : ℕ) × (j < length old.outputs) × (slice_index old.outputs j ≡ due.0)) ⊎ NoneDrives old.outputs due.0 → value_on none new.values due.0 ≢ value_on none old.values due.0
+          other (inl by) = λ e. due.2 (e ∙ sym (subst (λ (m : ℕ). value_on none mid.values m ≡ value_on none old.values m) by.2 (h.driven by.0 by.1)))
           other (inr free) = λ e. due.2 (as_before due.0 free)
 
 -- ## How many turns there can be

@@ -1,5 +1,5 @@
 -- Gates of a list are woken one after the other.
-use Rattle.std.proofs.Common.{◌≡◌, ℕ, ◌+◌, ◌<◌, arith, Bool, false, List, length, set, replicate, refl, sym, ap, ◌∙◌, inl, inr}
+use Rattle.std.proofs.Common.{◌≡◌, ℕ, ◌+◌, ◌<◌, arith, Bool, false, List, length, set, replicate, sym, ap, ◌∙◌, inl, inr}
 use Rattle.std.specs.Prelude.{◌⊎◌, Some, slice_get, Contains}
 use Rattle.std.proofs.lemmas.Bool.{cases_eq}
 use Rattle.std.proofs.lemmas.List.{length-set, length-replicate, get_or-set_same, get_or-set_other, get_or-replicate, get_or_default, same_lists}
@@ -9,10 +9,6 @@ use Rattle.link_rows.specs.BitRows.{is_set}
 use Rattle.gate_pass.specs.Inside.{AreWoken, AreWokenTo}
 
 module _ (gates : List ℕ) (old : List Bool) where
-  pub none_woken : AreWokenTo gates 0 old old
-  none_woken =
-      record { size = refl; woken = λ j k less. absurd (omega (arith, less)); still = λ k h. h; only = λ k h. inl h }
-
   module _ (place gate : ℕ) (at : slice_get gates place ≡ Some gate) (idle : List Bool) (low : gate < length idle) where
     here : is_set (set idle gate false) gate ≡ false
     here = get_or-set_same idle gate false false low

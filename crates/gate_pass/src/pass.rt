@@ -2,7 +2,7 @@
 ghost use Rattle.std.specs.Prelude.{◌≡◌, ◌+◌, ◌<◌, ◌≤◌, ◌^◌, ℕ, false, true, length, replicate, slice_set, slice_index, Contains, IfOk, List};
 ghost use Rattle.link_rows.specs.BitRows.{is_set, IsFirstClear};
 ghost use Rattle.graph_rank.specs.Rows.{row};
-ghost use Rattle.gate_pass.specs.Gates.{AreRanked, HasSettled, HasTaken, IsFree, NoneWaits, OthersWait, WereDue, value_in};
+ghost use Rattle.gate_pass.specs.Gates.{AreRanked, HasSettled, NetHasTaken, NoneDrives, NoneWaits, OthersWait, WereDue, value_on};
 ghost use Rattle.gate_pass.specs.Inside.{AreWoken, HasHadTurn};
 
 use crate::readers::readers_of;
@@ -76,7 +76,7 @@ impl<T: NetValue> GatePass<T> {
     /// The value of a net.
     pub fn value(&self, net: u32) -> T
         requires { net < length self.now.values }
-        ensures { result ≡ value_in T.none self.now.values net }
+        ensures { result ≡ value_on T.none self.now.values net }
     {
         *self.values.get(u64::from(net))
     }
@@ -91,8 +91,8 @@ impl<T: NetValue> GatePass<T> {
     /// Gives a net that no gate drives a value. Where it is another than before, the gates that read it wait.
     pub fn set(&mut self, net: u32, value: T)
         requires there { net < length self.old.values }
-        requires free { IsFree self.old.outputs net }
-        ensures taken { HasTaken T.none net value self.old self.new }
+        requires free { NoneDrives self.old.outputs net }
+        ensures taken { NetHasTaken T.none net value self.old self.new }
         ensures others { (gives : ℕ → List T → T) → OthersWait gives T.none self.old → OthersWait gives T.none self.new }
     {
         self.put(net, value);
@@ -187,7 +187,7 @@ impl<T: NetValue> GatePass<T> {
     // Gives a net a value. Where it is another than before, the gates that read it wait.
     fn put(&mut self, net: u32, value: T)
         requires { net < length self.old.values }
-        ensures { HasTaken T.none net value self.old self.new }
+        ensures { NetHasTaken T.none net value self.old self.new }
     {
         if !value.is(*self.values.get(u64::from(net))) {
             self.values.set(u64::from(net), value);

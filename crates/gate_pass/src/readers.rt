@@ -2,7 +2,7 @@
 //! the same net.
 ghost use Rattle.std.specs.Prelude.{◌≡◌, ◌<◌, ◌↔◌, ◌∷◌, [], ℕ, List, IfOk, OnOk, Contains, length};
 ghost use Rattle.graph_rank.specs.Rows.{row};
-ghost use Rattle.gate_pass.specs.Readers.{AreChains, AreLinked, AreReaders, HasMore, HasPin};
+ghost use Rattle.gate_pass.specs.Readers.{AreChains, AreLinked, AreReaders, HasMore, PinReads};
 
 use emu_io::NoMemory;
 use graph_rank::Graph;
@@ -87,7 +87,7 @@ impl Chains {
         requires there { net < length self.now.last.items }
         requires linked { (all : List ℕ) × AreLinked all self.now.last.items self.now.pins.items }
         ensures { OnOk result ((all : List ℕ) → AreLinked all self.now.last.items self.now.pins.items
-            → (k : ℕ) → Contains gates.new.items k ↔ HasPin all self.now.pins.items k net) }
+            → (k : ℕ) → Contains gates.new.items k ↔ PinReads all self.now.pins.items k net) }
     {
         gates.clear();
         let mut at = self.last[net as usize];

@@ -1,6 +1,6 @@
 //! What a pass asks of values, and of what gates give.
 ghost use Rattle.std.specs.Prelude.{◌≡◌, ◌+◌, ◌<◌, ◌≤◌, ◌↔◌, ℕ, List, All, IsTrue, false, length, map};
-ghost use Rattle.gate_pass.specs.Gates.{value_in};
+ghost use Rattle.gate_pass.specs.Gates.{value_on};
 
 use crate::Steps;
 use std::sync::ledger::Ledger;
@@ -35,6 +35,6 @@ pub trait GateRule<T: NetValue> {
     fn value<L: Ledger>(&self, gate: u32, inputs: &[u32], values: &[T], steps: &mut Steps<L>) -> T
         requires known { Knows self.now gate (length inputs.now) }
         requires there { All (λ n. n < length values.now) inputs.now }
-        ensures value { result ≡ gives self.now gate (map (value_in T.none values.now) inputs.now) }
+        ensures value { result ≡ gives self.now gate (map (value_on T.none values.now) inputs.now) }
         ensures steps { steps.new ≤ steps.old + 1 };
 }

@@ -3,7 +3,7 @@ use Rattle.std.specs.Prelude.{Some, slice_get, slice_index, Contains}
 use Rattle.std.proofs.lemmas.Option.{get_or_from_slice_get}
 use Rattle.std.proofs.lemmas.List.Elements.{Contains-get_or}
 use Rattle.graph_rank.specs.Rows.{row}
-use Rattle.gate_pass.specs.Gates.{value_in, PassState}
+use Rattle.gate_pass.specs.Gates.{value_on, PassState}
 use Rattle.gate_pass.proofs.Taken.{has_had_turn}
 use Rattle.gate_pass.proofs.pass.GatePass.take_turn.Goals as goal
 
@@ -31,6 +31,6 @@ returns-clause-turn g c =
     has_had_turn g.T.NetValue.none gives c.self.inside.inputs c.self.inside.outputs c.self.inside.values c.self.inside.waiting c.rest.new.self c.args.gate
     c.get-output.result.now c.value-value.result c.args.self.now c.put.new.self c.self.view_is (sym is)
     (c.value-value.ensures.value
-    ∙ ap (λ (values : List g.row.T.Denot). gives c.args.gate (map (value_in g.T.NetValue.none values) c.row.result.now)) c.as_slice.ensures
-    ∙ ap (λ (xs : List ℕ). gives c.args.gate (map (value_in g.T.NetValue.none c.self.inside.values) xs)) c.row.ensures)
+    ∙ ap (λ (values : List g.row.T.Denot). gives c.args.gate (map (value_on g.T.NetValue.none values) c.row.result.now)) c.as_slice.ensures
+    ∙ ap (λ (xs : List ℕ). gives c.args.gate (map (value_on g.T.NetValue.none c.self.inside.values) xs)) c.row.ensures)
     c.rest.ensures c.put.ensures

@@ -3,7 +3,7 @@ use Rattle.std.specs.Prelude.{Option, Some, slice_get}
 use Rattle.std.specs.Option.{option_map_or}
 use Rattle.std.proofs.lemmas.Option.{slice_get-get_or}
 use Rattle.gate_pass.specs.Readers.{AreFound}
-use Rattle.gate_pass.proofs.Chains.{next_found, falls, lower}
+use Rattle.gate_pass.proofs.Chains.{next_found, falls, falls_by_measure}
 use Rattle.gate_pass.proofs.readers.Chains.fill.Goals as goal
 
 pub index-pin-requires : goal.index-pin-requires
@@ -16,7 +16,7 @@ back-smaller c =
     let at : slice_get c.args.self.now.pins.items c.in-Some.place ≡ Some c.index-pin.result.now =
     slice_get-get_or c.args.self.now.pins.items c.in-Some.place c.index-pin.result.now ((c.back.invariant c.requires.linked.0 c.requires.linked.1).here c.in-Some.place c.in-Some.is).0 ∙ ap Some (sym c.index-pin.ensures) in
     let is : option_map_or (λ (p : ℕ). p + 1) c.back.at 0 ≡ c.in-Some.place + 1 = ap (λ (o : Option ℕ). option_map_or (λ (p : ℕ). p + 1) o 0) c.in-Some.is in
-    lower c.index-pin.result.now.before c.in-Some.place c.back.at is (falls c.requires.linked.0 c.args.self.now.last.items c.args.self.now.pins.items c.requires.linked.1 c.in-Some.place c.index-pin.result.now at)
+    falls_by_measure c.index-pin.result.now.before c.in-Some.place c.back.at is (falls c.requires.linked.0 c.args.self.now.last.items c.args.self.now.pins.items c.requires.linked.1 c.in-Some.place c.index-pin.result.now at)
 
 pub back-preserved : goal.back-preserved
 back-preserved c all linked =
