@@ -1,0 +1,7 @@
+mod Members
+mod Woken
+mod Taken
+mod Turns
+pub mod Chains
+pub mod Unique
+pub mod Since
