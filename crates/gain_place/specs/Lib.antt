@@ -1,0 +1,5 @@
+pub mod Homes
+pub mod Cut
+pub mod Gain
+pub mod Lists
+pub mod Tables
