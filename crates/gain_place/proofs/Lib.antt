@@ -1,2 +1,5 @@
 mod Filled
 mod Ranges
+mod Added
+mod Sources
+mod Standing

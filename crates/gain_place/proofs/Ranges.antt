@@ -88,7 +88,7 @@ module _ (q : ℕ → Bool) where
   has_filter_within k n h = let s = stands k 0 n h in let low = s.1 in omega arith
 
 -- what is at a place of a list stands in it
-at_stands : (number : ℕ) (xs : List ℕ) (k : ℕ) → slice_get xs k ≡ Some number → has number xs ≡ true
+pub at_stands : (number : ℕ) (xs : List ℕ) (k : ℕ) → slice_get xs k ≡ Some number → has number xs ≡ true
 at_stands number [] k at = absurd (none-some number at)
 at_stands number (x ∷ xs) zero at = ap (λ b. b || has number xs) (eq-eqb number x (sym (same_Some x number at)))
 at_stands number (x ∷ xs) (suc k) at = ap (λ b. (number == x) || b) (at_stands number xs k at) ∙ or_true (number == x)

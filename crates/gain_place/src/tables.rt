@@ -18,13 +18,13 @@ pub(crate) fn empty_lists(alloc: Global, count: u32) -> Result<Vec<List<u32>>, N
 
 /// Puts a number at the end of the list of each of these heads, once where a head comes again.
 pub(crate) fn put_under(
-    table: &mut [List<u32>],
+    table: &mut Vec<List<u32>>,
     heads: &[u32],
     number: u32,
 ) -> Result<(), NoMemory>
-    requires heads { All (λ head. head < length table.old) heads.now }
-    requires fresh { (head : ℕ) → is_last number (at table.old head) ≡ false }
-    ensures { OnOk result (HasUnder heads.now number table.old table.new) }
+    requires heads { All (λ head. head < length table.old.items) heads.now }
+    requires fresh { (head : ℕ) → is_last number (at table.old.items head) ≡ false }
+    ensures { OnOk result (HasUnder heads.now number table.old.items table.new.items) }
 {
     'heads: for head in heads {
         put_once(table, *head, number)?;
@@ -33,9 +33,9 @@ pub(crate) fn put_under(
 }
 
 // Puts a number at the end of one list, unless it stands there.
-fn put_once(table: &mut [List<u32>], head: u32, number: u32) -> Result<(), NoMemory>
-    requires { head < length table.old }
-    ensures { OnOk result (table.new ≡ slice_set table.old head (with_last number (at table.old head))) }
+fn put_once(table: &mut Vec<List<u32>>, head: u32, number: u32) -> Result<(), NoMemory>
+    requires { head < length table.old.items }
+    ensures { OnOk result (table.new.items ≡ slice_set table.old.items head (with_last number (at table.old.items head))) }
 {
     if ends_in(table[head as usize].as_slice(), number) {
         return Ok(());

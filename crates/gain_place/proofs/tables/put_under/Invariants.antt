@@ -4,4 +4,4 @@ use Rattle.gain_place.specs.Lists.{HasUnder}
 use Rattle.gain_place.proofs.tables.put_under.Given as goal
 
 abbrev pub invariant-heads : goal.invariant-heads
-invariant-heads l = HasUnder (take l.head-index l.heads) l.number l.initial.table l.table
+invariant-heads l = HasUnder (take l.head-index l.heads) l.number l.initial.table.items l.table.items
