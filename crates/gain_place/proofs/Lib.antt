@@ -3,3 +3,5 @@ mod Ranges
 mod Added
 mod Sources
 mod Standing
+mod Spanning
+mod Trades

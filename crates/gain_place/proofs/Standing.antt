@@ -1,10 +1,12 @@
 -- Tables in which each number stands in the lists of its heads, as they are filled, and what they come to.
-use Rattle.std.proofs.Common.{◌≡◌, ◌<◌, ◌+◌, ℕ, zero, suc, Bool, true, false, List, [], ◌∷◌, ◌++◌, length, get_or, map, refl, sym, ap, ◌∙◌, subst, arith, inl, inr}
+use Rattle.std.proofs.Common.{◌≡◌, ◌<◌, ◌≤◌, ◌+◌, ℕ, zero, suc, Bool, true, false, List, [], ◌∷◌, ◌++◌, length, get_or, map, refl, sym, ap, ◌∙◌, subst, arith, inl, inr}
 use Rattle.std.specs.Prelude.{◌==◌, ◌||◌, ◌&&◌, ◌⊎◌, Some, None, Option, All, is_some, if◌then◌else◌, IsTrue, flat_map, option_map, option_to_list, unwrap_or, slice_get}
 use Rattle.std.specs.List.{list_any, filter, range_with_len}
 use Rattle.std.proofs.lemmas.Bool.{cases_eq, eq-eqb}
 use Rattle.std.proofs.lemmas.Option.{none-some, same_Some, slice_get-get_or}
 use Rattle.std.proofs.lemmas.List.Folds.{list_any-append}
+use Rattle.std.proofs.lemmas.List.FromFn.{length-range_with_len}
+use Rattle.std.proofs.lemmas.List.Sums.{length-filter, count_by-le-length}
 use Rattle.facts.proofs.Tests.{no, either}
 use Rattle.id_arena.specs.declared.keys.NetId.{NetId}
 use Rattle.design_core.specs.declared.element.Element.{Element}
@@ -165,3 +167,22 @@ module _ (p : Parts) where
 
   pub driven_long : (table : List (List ℕ)) (k : ℕ) → AreDriven p (net_count p) table → k < length p.elements → k < length table
   driven_long table k s low = subst (λ (n : ℕ). k < n) (sym s.count) low
+
+  -- what loads of the design say of the lists that they have
+  module _ (l : NetLoads) (are : AreLoads p l) where
+    pub element_nets_there : (k : ℕ) → k < length p.elements → (ns : List ℕ) → ns ≡ at l.nets k → All (λ n. n < length l.loads) ns
+    element_nets_there k low ns e =
+        heads_in ns (nets_of p k) (net_count p) (length l.loads) (e ∙ are.nets k low)
+        (all_below (nets_of p k) (net_count p) (λ n h. has_filter_within (λ n. is_some (source p n) && touches p n k) n (net_count p) h)) are.net_number
+
+    pub net_loads_there : (long : ℕ) → long ≡ length p.elements → (n : ℕ) → n < length l.loads → All (λ k. k < long) (at l.loads n)
+    net_loads_there long e n low =
+        heads_in (at l.loads n) (loads_of p n) (length p.elements) long (are.loads n (let h = are.net_number in omega arith)) (loads_there n) e
+
+    pub few_nets : (k : ℕ) → k < length p.elements → (ns : List ℕ) → ns ≡ at l.nets k → length ns ≤ net_count p
+    few_nets k low ns e =
+        let same = ap length (e ∙ are.nets k low) in
+        let a = length-filter (λ n. is_some (source p n) && touches p n k) (nets p) in
+        let b = count_by-le-length (λ n. is_some (source p n) && touches p n k) (nets p) in
+        let c = length-range_with_len 0 (net_count p) in
+        omega (arith, same, a, b, c)

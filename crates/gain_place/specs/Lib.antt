@@ -3,3 +3,4 @@ pub mod Cut
 pub mod Gain
 pub mod Lists
 pub mod Tables
+pub mod Spans

@@ -1,10 +1,16 @@
 //! The cut of a placement, and its descent by best moves.
 #![tactic(auto)]
 
+mod cutting;
+mod gains;
 mod loads;
 mod moves;
 mod pins;
+mod steps;
 mod tables;
 
+pub use cutting::cut;
+pub use gains::gain_of;
 pub use loads::Loads;
 pub use moves::Move;
+pub use steps::Steps;
