@@ -5,3 +5,4 @@ mod Sources
 mod Standing
 mod Spanning
 mod Trades
+mod OneEnd

@@ -3,6 +3,7 @@
 
 mod cutting;
 mod gains;
+mod laws;
 mod loads;
 mod moves;
 mod pins;
@@ -11,6 +12,7 @@ mod tables;
 
 pub use cutting::cut;
 pub use gains::gain_of;
+pub use laws::each_start_has_one_end;
 pub use loads::Loads;
 pub use moves::Move;
 pub use steps::Steps;

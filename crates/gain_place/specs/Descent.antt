@@ -1,0 +1,48 @@
+-- Which moves may be made, the best of them, and the descent of a placement.
+-- The rule is told in docs/RULES.md, "Cut and descent".
+use Rattle.std.specs.Prelude.{◌≡◌, ◌≢◌, ◌<◌, ◌≤◌, ◌+◌, ℕ, pos, ◌<ℤ◌, ◌≤ℤ◌, List, [], ◌∷◌, length, option_map, unwrap_or, slice_get}
+use Rattle.id_arena.specs.declared.keys.ChipId.{ChipId}
+use Rattle.design_core.specs.declared.parts.Parts.{Parts}
+use Rattle.design_core.specs.Weight.{weight}
+use Rattle.seed_place.specs.Rooms.{load, room}
+use Rattle.gain_place.specs.declared.moves.Move.{Move}
+use Rattle.gain_place.specs.Homes.{chip_at}
+use Rattle.gain_place.specs.Gain.{moved, gain}
+
+-- the weight of an element, by its number
+abbrev pub weight_at : Parts → ℕ → ℕ
+weight_at p k = unwrap_or (option_map (weight p) (slice_get p.elements k)) 0
+
+-- a move takes an element to another chip of the board, whose room left is at least the element's weight
+pub record IsMove (p : Parts) (rooms : List ℕ) (chips : List ChipId) (m : Move) : Type 0 where
+  pub here : m.elem.place < length p.elements
+  pub there : m.to.place < length rooms
+  pub other : chip_at chips m.elem.place ≢ m.to.place
+  pub fits : load p chips m.to.place + weight_at p m.elem.place ≤ room rooms m.to.place
+
+-- A move is best where no move has a greater gain, none of equal gain is of a lower element, and none of equal
+-- gain and the same element goes to a lower chip.
+pub record IsBest (p : Parts) (rooms : List ℕ) (chips : List ChipId) (m : Move) : Type 0 where
+  pub move : IsMove p rooms chips m
+  pub greatest : (other : Move) → IsMove p rooms chips other → gain p chips other ≤ℤ gain p chips m
+  pub lowest : (other : Move) → IsMove p rooms chips other → gain p chips other ≡ gain p chips m → m.elem.place ≤ other.elem.place
+  pub lowest_chip : (other : Move) → IsMove p rooms chips other → gain p chips other ≡ gain p chips m → other.elem ≡ m.elem
+      → m.to.place ≤ other.to.place
+
+-- no move has positive gain
+abbrev pub NoneGains : Parts → List ℕ → List ChipId → Type 0
+NoneGains p rooms chips = (m : Move) → IsMove p rooms chips m → gain p chips m ≤ℤ pos 0
+
+-- these moves, each the best and of positive gain, lead from a placement to one from which no move has positive gain
+abbrev pub IsDescent : Parts → List ℕ → List ChipId → List Move → List ChipId → Type 0
+IsDescent p rooms chips [] end = (chips ≡ end) × NoneGains p rooms chips
+IsDescent p rooms chips (m ∷ ms) end = IsBest p rooms chips m × (pos 0 <ℤ gain p chips m) × IsDescent p rooms (moved chips m) ms end
+
+-- the descent of a placement ends here
+abbrev pub Descends : Parts → List ℕ → List ChipId → List ChipId → Type 0
+Descends p rooms start end = (ms : List Move) × IsDescent p rooms start ms end
+
+-- a placement has at most one end of its descent
+abbrev pub EachStartHasOneEnd : Type 0
+EachStartHasOneEnd =
+    (p : Parts) (rooms : List ℕ) (start first second : List ChipId) → Descends p rooms start first → Descends p rooms start second → first ≡ second
