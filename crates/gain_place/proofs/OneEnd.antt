@@ -1,5 +1,5 @@
 -- A best move is the only one, and so the end of a descent is.
-use Rattle.std.proofs.Common.{◌≡◌, ◌≤◌, ℕ, List, [], ◌∷◌, refl, sym, ap, ◌∙◌, subst, arith}
+use Rattle.std.proofs.Common.{◌≡◌, ℕ, List, [], ◌∷◌, sym, ap, ◌∙◌, subst, arith}
 use Rattle.std.specs.Prelude.{ℤ, pos, ◌≤ℤ◌, ◌<ℤ◌}
 use Rattle.std.proofs.lemmas.Int.{ints}
 use Rattle.id_arena.specs.declared.keys.ChipId.{ChipId}
@@ -7,7 +7,7 @@ use Rattle.id_arena.specs.declared.keys.ElemId.{ElemId}
 use Rattle.design_core.specs.declared.parts.Parts.{Parts}
 use Rattle.gain_place.specs.declared.moves.Move.{Move}
 use Rattle.gain_place.specs.Gain.{gain, moved}
-use Rattle.gain_place.specs.Descent.{IsBest, IsDescent, IsMove, NoneGains, EachStartHasOneEnd}
+use Rattle.gain_place.specs.Descent.{IsBest, IsDescent, EachStartHasOneEnd}
 
 both_ways : (a b : ℤ) → a ≤ℤ b → b ≤ℤ a → a ≡ b
 both_ways a b x y = omega (arith, ints)

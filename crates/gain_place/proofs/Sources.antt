@@ -1,10 +1,9 @@
 -- The memory that drives a bit of a read port.
-use Rattle.std.proofs.Common.{◌≡◌, ◌<◌, ◌≤◌, ℕ, Bool, true, arith, subst, refl, sym}
-use Rattle.std.specs.Prelude.{Some, length, position, slice_get, count_by}
+use Rattle.std.proofs.Common.{◌≡◌, ◌<◌, ℕ, arith, refl}
+use Rattle.std.specs.Prelude.{Some, length, position, count_by}
 use Rattle.std.proofs.lemmas.Bool.{eq-eqb}
 use Rattle.facts.proofs.Counting.{found}
 use Rattle.id_arena.specs.declared.keys.ElemId.{ElemId}
-use Rattle.design_core.specs.declared.element.Element.{Element}
 use Rattle.design_core.specs.declared.element.Element.TheVariants as element
 use Rattle.design_core.specs.declared.parts.Parts.{Parts}
 use Rattle.design_core.specs.Design.{IsDesign, is_memory}

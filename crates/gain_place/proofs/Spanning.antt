@@ -1,22 +1,16 @@
 -- The number of chips that elements are on, as they are gone over, and what it says of a net.
-use Rattle.std.proofs.Common.{◌≡◌, ◌≢◌, ◌<◌, ◌≤◌, ◌+◌, ◌^◌, ℕ, zero, suc, Bool, true, false, not, List, [], ◌∷◌, ◌++◌, length, get_or, set, take, refl, sym, ap, ◌∙◌, subst, arith, inl, inr, cond}
-use Rattle.std.specs.Prelude.{◌==◌, ◌||◌, ◌&&◌, ◌⊎◌, Some, None, Option, All, if◌then◌else◌, count_by, sum_by, slice_get}
+use Rattle.std.proofs.Common.{◌≡◌, ◌<◌, ◌≤◌, ◌+◌, ◌^◌, ℕ, zero, suc, Bool, true, false, not, List, [], ◌∷◌, ◌++◌, length, get_or, set, take, refl, sym, ap, ◌∙◌, arith, inl, inr, cond}
+use Rattle.std.specs.Prelude.{◌==◌, ◌||◌, ◌&&◌, Some, None, Option, if◌then◌else◌, count_by, sum_by}
 use Rattle.std.specs.List.{list_any, filter, range_with_len}
-use Rattle.std.proofs.lemmas.Bool.{cases_eq, eq-eqb, eqb-true}
-use Rattle.std.proofs.lemmas.Option.{slice_get_within}
+use Rattle.std.proofs.lemmas.Bool.{cases_eq, eq-eqb}
 use Rattle.std.proofs.lemmas.List.{length-set, get_or-set_same, get_or-set_other, take_more}
 use Rattle.std.proofs.lemmas.List.Folds.{list_any_more}
 use Rattle.std.proofs.lemmas.List.FromFn.{length-range_with_len}
 use Rattle.std.proofs.lemmas.List.Sums.{sum_by-cons, sum_by_push, length-filter, count_by-le-length}
-use Rattle.facts.proofs.Tests.{no}
-use Rattle.facts.proofs.Counting.{positioned}
-use Rattle.history_law.specs.Drivers.{DriverIsElement}
 use Rattle.id_arena.specs.declared.keys.ChipId.{ChipId}
-use Rattle.design_core.specs.declared.element.Driver.{Driver}
-use Rattle.design_core.specs.declared.element.Driver.TheVariants.{Constant, Input, Elem, Read}
 use Rattle.design_core.specs.declared.parts.Parts.{Parts}
-use Rattle.design_core.specs.Design.{driver, is_memory, net_count}
-use Rattle.gain_place.specs.Homes.{chip_at, elements, is_reader, is_source, nets, reads, source, source_of, touches}
+use Rattle.design_core.specs.Design.{net_count}
+use Rattle.gain_place.specs.Homes.{chip_at, elements, is_reader, is_source, reads, source, touches}
 use Rattle.gain_place.specs.Cut.{chip_numbers, crossings, cut, readers_away}
 use Rattle.gain_place.specs.Tables.{loads_of}
 use Rattle.gain_place.specs.Spans.{cut_to, is_on, spans, stamp_at, IsSpanned}

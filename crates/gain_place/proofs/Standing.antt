@@ -1,6 +1,6 @@
 -- Tables in which each number stands in the lists of its heads, as they are filled, and what they come to.
 use Rattle.std.proofs.Common.{◌≡◌, ◌<◌, ◌≤◌, ◌+◌, ℕ, zero, suc, Bool, true, false, List, [], ◌∷◌, ◌++◌, length, get_or, map, refl, sym, ap, ◌∙◌, subst, arith, inl, inr}
-use Rattle.std.specs.Prelude.{◌==◌, ◌||◌, ◌&&◌, ◌⊎◌, Some, None, Option, All, is_some, if◌then◌else◌, IsTrue, flat_map, option_map, option_to_list, unwrap_or, slice_get}
+use Rattle.std.specs.Prelude.{◌==◌, ◌||◌, ◌&&◌, ◌⊎◌, Some, None, Option, All, is_some, if◌then◌else◌, flat_map, option_map, option_to_list, unwrap_or, slice_get}
 use Rattle.std.specs.List.{list_any, filter, range_with_len}
 use Rattle.std.proofs.lemmas.Bool.{cases_eq, eq-eqb}
 use Rattle.std.proofs.lemmas.Option.{none-some, same_Some, slice_get-get_or}

@@ -1,7 +1,7 @@
 -- What a move wins and loses at the nets of its element is what the cut loses and wins.
-use Rattle.std.proofs.Common.{◌≡◌, ◌≢◌, ◌<◌, ◌≤◌, ◌+◌, ◌^◌, ℕ, zero, suc, Bool, true, false, not, List, [], ◌∷◌, length, get_or, set, refl, sym, ap, ◌∙◌, subst, arith, inl, inr, cond}
-use Rattle.std.specs.Prelude.{◌==◌, ◌||◌, ◌&&◌, Some, None, Option, is_some, count_by, sum_by, slice_get, ℤ, pos, ◌-ℤ◌}
-use Rattle.std.specs.List.{list_any, filter, range_with_len}
+use Rattle.std.proofs.Common.{◌≡◌, ◌<◌, ◌≤◌, ◌+◌, ◌^◌, ℕ, zero, suc, Bool, true, false, not, List, [], ◌∷◌, length, refl, sym, ap, ◌∙◌, subst, arith, inl, inr, cond}
+use Rattle.std.specs.Prelude.{◌==◌, ◌||◌, ◌&&◌, Some, None, Option, is_some, count_by, sum_by, ℤ, pos, ◌-ℤ◌}
+use Rattle.std.specs.List.{filter, range_with_len}
 use Rattle.std.proofs.lemmas.Bool.{cases_eq, eq-eqb}
 use Rattle.std.proofs.lemmas.Option.{slice_get_within, same_Some}
 use Rattle.std.proofs.lemmas.List.{get_or-set_same, get_or-set_other}
@@ -9,23 +9,22 @@ use Rattle.std.proofs.lemmas.List.Sums.{sum_by-cons}
 use Rattle.std.proofs.lemmas.Int.{ints}
 use mir.Val.{to_z, of_z}
 use mir.Syntax.{w64}
-use Rattle.facts.proofs.Counting.{count_here, count_there, positioned}
+use Rattle.facts.proofs.Counting.{positioned}
 use Rattle.facts.proofs.Tests.{no}
 use Rattle.history_law.specs.Drivers.{DriverIsElement}
 use Rattle.id_arena.specs.declared.keys.ChipId.{ChipId}
-use Rattle.id_arena.specs.declared.keys.ElemId.{ElemId}
 use Rattle.design_core.specs.declared.element.Driver.{Driver}
 use Rattle.design_core.specs.declared.element.Driver.TheVariants.{Constant, Input, Elem, Read}
 use Rattle.design_core.specs.declared.parts.Parts.{Parts}
 use Rattle.design_core.specs.Design.{driver, is_memory, net_count}
 use Rattle.link_rows.specs.Rows.{has}
 use Rattle.gain_place.specs.declared.moves.Move.{Move}
-use Rattle.gain_place.specs.Homes.{chip_at, elements, source, source_of, touches}
+use Rattle.gain_place.specs.Homes.{chip_at, source, source_of, touches}
 use Rattle.gain_place.specs.Cut.{chip_numbers, crossings, cut}
 use Rattle.gain_place.specs.Gain.{gain, moved}
 use Rattle.gain_place.specs.Lists.{at}
 use Rattle.gain_place.specs.Tables.{loads_of, nets_of}
-use Rattle.gain_place.specs.Spans.{cut_to, is_lone, is_on, other_on, spans}
+use Rattle.gain_place.specs.Spans.{is_lone, is_on, other_on, spans}
 use Rattle.gain_place.proofs.Ranges.{differ, has_filter, no_chip_more, one_chip_more}
 use Rattle.gain_place.proofs.Spanning.{crossings_none, cut_is, spans_home}
 

@@ -1,5 +1,5 @@
 -- Inside the cut and the gains: on which chips a net has elements.
-use Rattle.std.specs.Prelude.{◌≡◌, ◌<◌, ◌≤◌, ◌+◌, ℕ, Bool, ◌==◌, ◌&&◌, not, List, length, slice_index_or, count_by, sum_by}
+use Rattle.std.specs.Prelude.{◌≡◌, ◌≤◌, ℕ, Bool, ◌==◌, ◌&&◌, not, List, length, slice_index_or, count_by, sum_by}
 use Rattle.std.specs.List.{list_any, range_with_len}
 use Rattle.id_arena.specs.declared.keys.ChipId.{ChipId}
 use Rattle.design_core.specs.declared.parts.Parts.{Parts}

@@ -1,4 +1,8 @@
-//! The cut of a placement, and its descent by best moves.
+//! How many nets a placement cuts, and what a move of an element gains.
+//!
+//! `cut` counts the chips that read a net away from its home, exactly, and `gain_of` gives what a move
+//! takes from that count. The definitions say which moves there are, which is best, and where the descent
+//! by best moves ends; that there is one such end at most is a law. No call descends yet.
 #![tactic(auto)]
 
 mod cutting;

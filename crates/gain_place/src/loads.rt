@@ -87,7 +87,11 @@ fn add_source(heads: &mut Vec<u32>, design: &Design, net: NetId) -> Result<(), N
 }
 
 // For each net the elements that drive or read it.
-fn net_loads(alloc: Global, design: &Design, driven: &[List<u32>]) -> Result<Vec<List<u32>>, NoMemory>
+fn net_loads(
+    alloc: Global,
+    design: &Design,
+    driven: &[List<u32>],
+) -> Result<Vec<List<u32>>, NoMemory>
     requires { AreDriven design.now (net_count design.now) driven.now }
     ensures { IfOk result (λ loads. AreNetLoads design.now (length design.now.elements) loads.items) }
 {
@@ -119,7 +123,11 @@ fn add_touched(
 }
 
 // For each element the nets that have a home and that it drives or reads.
-fn element_nets(alloc: Global, design: &Design, loads: &[List<u32>]) -> Result<Vec<List<u32>>, NoMemory>
+fn element_nets(
+    alloc: Global,
+    design: &Design,
+    loads: &[List<u32>],
+) -> Result<Vec<List<u32>>, NoMemory>
     requires { AreNetLoads design.now (length design.now.elements) loads.now }
     ensures { IfOk result (λ nets. AreNets design.now (net_count design.now) nets.items) }
 {

@@ -26,7 +26,11 @@ pub(crate) fn source(design: &Design, net: NetId) -> Option<ElemId>
 }
 
 /// Adds the nets at the pins that an element reads, for a memory those of all its ports.
-pub(crate) fn add_pins(row: &mut Vec<u32>, design: &Design, element: &Element) -> Result<(), NoMemory>
+pub(crate) fn add_pins(
+    row: &mut Vec<u32>,
+    design: &Design,
+    element: &Element,
+) -> Result<(), NoMemory>
     requires { IsTrue (element_fits design.now element.now) }
     ensures { OnOk result (row.new.items ≡ row.old.items ++ map (λ n. n.place) (pins design.now element.now)) }
 {
@@ -65,7 +69,11 @@ fn add_nets(row: &mut Vec<u32>, nets: &[NetId]) -> Result<(), NoMemory>
 }
 
 // Adds the nets of resets that are there.
-fn add_resets(row: &mut Vec<u32>, clear: Option<Level>, preset: Option<Level>) -> Result<(), NoMemory>
+fn add_resets(
+    row: &mut Vec<u32>,
+    clear: Option<Level>,
+    preset: Option<Level>,
+) -> Result<(), NoMemory>
     ensures { OnOk result (row.new.items ≡ row.old.items ++ map (λ n. n.place) (reset_nets clear preset)) }
 {
     add_reset(row, clear)?;

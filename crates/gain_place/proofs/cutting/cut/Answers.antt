@@ -1,4 +1,4 @@
-use Rattle.std.proofs.Common.{rules, ◌≡◌, ◌<◌, ◌≤◌, ◌+◌, ◌^◌, length, List, ℕ, ap, sym, arith, ◌∙◌}
+use Rattle.std.proofs.Common.{rules, ◌≡◌, ap, sym, arith, ◌∙◌}
 use Rattle.design_core.specs.Design.{net_count}
 use Rattle.gain_place.specs.Cut.{crossings}
 use Rattle.gain_place.specs.Spans.{cut_to}

@@ -1,12 +1,11 @@
-use Rattle.std.proofs.Common.{rules, ◌≡◌, ◌<◌, ◌≤◌, ◌+◌, ◌^◌, length, List, ℕ, ap, arith, ◌∙◌}
+use Rattle.std.proofs.Common.{rules, ◌≡◌, ◌<◌, ◌≤◌, length, ap, arith, ◌∙◌}
 use Rattle.std.specs.Prelude.{Some}
 use Rattle.design_core.specs.Design.{net_count}
-use Rattle.gain_place.specs.Cut.{crossings}
-use Rattle.gain_place.specs.Homes.{chip_at, source}
+use Rattle.gain_place.specs.Homes.{source}
 use Rattle.gain_place.specs.Spans.{spans}
 use Rattle.gain_place.specs.Tables.{loads_of}
 use Rattle.gain_place.proofs.Standing.{heads_in, loads_there}
-use Rattle.gain_place.proofs.Spanning.{few_loads, spans_home, crossings_none}
+use Rattle.gain_place.proofs.Spanning.{few_loads, spans_home}
 use Rattle.gain_place.proofs.cutting.net_crossings.Goals as goal
 
 pub overflow_add-net : goal.overflow_add-net

@@ -1,4 +1,4 @@
-use Rattle.std.proofs.Common.{rules, ◌≡◌, ◌<◌, ◌+◌, ◌^◌, length, List, ℕ, take, set, get_or, refl, sym, ap, subst, arith, ◌∙◌}
+use Rattle.std.proofs.Common.{rules, ◌<◌, ◌+◌, ◌^◌, length, List, ℕ, take, set, get_or, refl, sym, ap, subst, arith, ◌∙◌}
 use Rattle.std.specs.Prelude.{◌==◌, if◌then◌else◌}
 use Rattle.gain_place.specs.Homes.{chip_at}
 use Rattle.gain_place.specs.Spans.{stamp_at, IsSpanned}

@@ -1,11 +1,9 @@
-use Rattle.std.proofs.Common.{rules, ◌≡◌, ◌<◌, ◌≤◌, ◌+◌, ◌^◌, List, ℕ, length, ap, sym, arith, ◌∙◌}
-use Rattle.std.specs.Prelude.{count_by, pos, ◌-ℤ◌}
-use Rattle.std.proofs.lemmas.Int.{ints}
+use Rattle.std.proofs.Common.{◌≡◌, ◌≤◌, List, ℕ, length, ap, arith, ◌∙◌}
+use Rattle.std.specs.Prelude.{count_by}
 use Rattle.id_arena.specs.declared.keys.ChipId.{ChipId}
 use Rattle.design_core.specs.Design.{net_count}
 use Rattle.gain_place.specs.declared.moves.Move.{Move}
-use Rattle.gain_place.specs.Cut.{cut}
-use Rattle.gain_place.specs.Gain.{gain, moved}
+use Rattle.gain_place.specs.Gain.{gain}
 use Rattle.gain_place.specs.Homes.{chip_at}
 use Rattle.gain_place.specs.Spans.{is_lone}
 use Rattle.gain_place.specs.Tables.{nets_of}

@@ -1,10 +1,9 @@
-use Rattle.std.proofs.Common.{get_or, ◌≡◌, ◌++◌, List, [], ℕ, map, append_assoc, rules, sym, ap, ◌∙◌}
-use Rattle.std.specs.Prelude.{Some, Option, option_map, unwrap_or}
+use Rattle.std.proofs.Common.{get_or, ◌≡◌, ◌++◌, List, [], ℕ, map, append_assoc, sym, ap, ◌∙◌}
+use Rattle.std.specs.Prelude.{Option, option_map, unwrap_or}
 use Rattle.id_arena.specs.declared.keys.NetId.{NetId}
 use Rattle.design_core.specs.declared.element.Element.{Element}
 use Rattle.gain_place.specs.Homes.{pins, pins_at}
 use Rattle.gain_place.specs.Lists.{at}
-use Rattle.gain_place.specs.Tables.{driven_of}
 use Rattle.gain_place.proofs.Standing.{driven_is, driven_long}
 use Rattle.std.proofs.lemmas.List.{get_or_default}
 use Rattle.gain_place.proofs.loads.add_touched.Goals as goal

@@ -1,8 +1,8 @@
-use Rattle.std.proofs.Common.{rules, ◌≡◌, length, List, [], ℕ, sym, ap, subst, ◌∙◌}
+use Rattle.std.proofs.Common.{rules, ◌≡◌, length, List, [], ℕ, sym, subst, ◌∙◌}
 use Rattle.std.specs.Prelude.{Some, None}
 use Rattle.gain_place.specs.Homes.{source}
 use Rattle.gain_place.specs.Lists.{at, HasUnder}
-use Rattle.gain_place.specs.Tables.{loads_of, homed_loads}
+use Rattle.gain_place.specs.Tables.{loads_of}
 use Rattle.gain_place.proofs.Standing.{heads_in, homed_none, homed_some, loads_there, loads_is, loads_long}
 use Rattle.std.proofs.lemmas.List.{get_or_default}
 use Rattle.gain_place.proofs.loads.put_homed.Goals as goal
