@@ -6,3 +6,4 @@ mod Standing
 mod Spanning
 mod Trades
 mod OneEnd
+mod Example

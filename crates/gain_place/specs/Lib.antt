@@ -5,3 +5,4 @@ pub mod Descent
 pub mod Lists
 pub mod Tables
 pub mod Spans
+pub mod Worked
