@@ -1,11 +1,9 @@
 -- The worked case computes.
 use Rattle.std.proofs.Common.{◌≡◌, ◌<◌, ◌+◌, ◌^◌, ℕ, Bool, true, false, not, List, [], ◌∷◌, refl, sym, ap, ◌∙◌, arith, inl, inr}
-use Rattle.std.specs.Prelude.{◌==◌, ◌||◌, ◌&&◌, count_by, sum_by, pos, ◌-ℤ◌}
-use Rattle.std.proofs.lemmas.Bool.{cases_eq, eq-eqb}
+use Rattle.std.specs.Prelude.{◌==◌, ◌||◌, ◌&&◌, count_by}
+use Rattle.std.proofs.lemmas.Bool.{cases_eq}
 use Rattle.std.proofs.lemmas.List.Sums.{sum_by-cons}
-use Rattle.id_arena.specs.declared.keys.ChipId.{ChipId}
 use Rattle.gain_place.specs.Cut.{chip_numbers, crossings, cut}
-use Rattle.gain_place.specs.Homes.{nets}
 use Rattle.gain_place.specs.Worked.{chip, example, start, ExampleHolds}
 use Rattle.gain_place.proofs.Ranges.{differ, one_chip_more}
 use Rattle.gain_place.proofs.Trades.{gain_is}
@@ -75,7 +73,9 @@ cut_after =
     ∙ ap (λ k. 0 + k + crossings example (chip 1 ∷ chip 0 ∷ chip 1 ∷ []) 5) m ∙ ap (λ k. 0 + k) n
 
 pub example_holds : ExampleHolds
-example_holds =
-    (cut_before, cut_after,
-    sym (gain_is example start (record { elem = record { place = 0 }; to = chip 1 }) 1 0
-    (ap (λ k. k + 0) cut_before ∙ sym (ap (λ k. k + 1) cut_after))))
+example_holds = (
+  cut_before,
+  cut_after,
+  sym (gain_is example start (record { elem = record { place = 0 }; to = chip 1 }) 1 0
+      (ap (λ k. k + 0) cut_before ∙ sym (ap (λ k. k + 1) cut_after))),
+)

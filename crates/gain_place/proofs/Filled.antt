@@ -2,10 +2,10 @@
 use Rattle.std.proofs.Common.{◌≡◌, ◌<◌, ◌+◌, ◌-◌, ℕ, Bool, true, false, List, [], ◌∷◌, ◌++◌, length, get_or, set, take, refl, sym, ap, ◌∙◌, arith, inl, inr}
 use Rattle.std.specs.Prelude.{◌==◌, ◌||◌, Some, slice_get, if◌then◌else◌}
 use Rattle.std.proofs.lemmas.Bool.{cases_eq, eq-eqb}
-use Rattle.std.proofs.lemmas.Bool.Decides.{nat_tests}
 use Rattle.std.proofs.lemmas.List.{length-append, length-set, get_or-set_same, get_or-set_other}
 use Rattle.std.proofs.lemmas.List.Folds.{list_any_more}
 use Rattle.link_rows.specs.Rows.{has}
+use Rattle.gain_place.proofs.Ranges.{differ}
 use Rattle.gain_place.specs.Lists.{at, is_the, is_last, with_last, put_if, HasUnder}
 
 slice_get_pushed : (xs : List ℕ) (x : ℕ) → slice_get (xs ++ x ∷ []) (length xs) ≡ Some x
@@ -19,9 +19,6 @@ last_pushed number xs =
     ap (λ k. is_the (slice_get (xs ++ number ∷ []) k) number) long
     ∙ ap (λ o. is_the o number) (slice_get_pushed xs number)
     ∙ eq-eqb number number refl
-
-differ : (a b : ℕ) → (a ≡ b → ⊥) → (a == b) ≡ false
-differ a b apart = grind (arith, nat_tests)
 
 module _ (old table : List (List ℕ)) (heads : List ℕ) (number i : ℕ) where
   abbrev head : ℕ

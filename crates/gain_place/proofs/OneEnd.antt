@@ -1,13 +1,14 @@
--- A best move is the only one, and so the end of a descent is.
-use Rattle.std.proofs.Common.{◌≡◌, ℕ, List, [], ◌∷◌, sym, ap, ◌∙◌, subst, arith}
+-- A best move is the only one, and so the end of a descent is. Each move lowers the cut.
+use Rattle.std.proofs.Common.{◌≡◌, ◌≤◌, ◌<◌, ◌+◌, ℕ, List, [], ◌∷◌, sym, ap, ◌∙◌, subst, arith}
 use Rattle.std.specs.Prelude.{ℤ, pos, ◌≤ℤ◌, ◌<ℤ◌}
 use Rattle.std.proofs.lemmas.Int.{ints}
 use Rattle.id_arena.specs.declared.keys.ChipId.{ChipId}
 use Rattle.id_arena.specs.declared.keys.ElemId.{ElemId}
 use Rattle.design_core.specs.declared.parts.Parts.{Parts}
 use Rattle.gain_place.specs.declared.moves.Move.{Move}
+use Rattle.gain_place.specs.Cut.{cut}
 use Rattle.gain_place.specs.Gain.{gain, moved}
-use Rattle.gain_place.specs.Descent.{IsBest, IsDescent, EachStartHasOneEnd}
+use Rattle.gain_place.specs.Descent.{IsBest, IsDescent, IsMove, DescentsLowerTheCut, EachStartHasOneEnd}
 
 both_ways : (a b : ℤ) → a ≤ℤ b → b ≤ℤ a → a ≡ b
 both_ways a b x y = omega (arith, ints)
@@ -39,3 +40,22 @@ module _ (p : Parts) (rooms : List ℕ) where
 
 pub one_end : EachStartHasOneEnd
 one_end p rooms start a b x y = ends_are_same p rooms x.0 y.0 start a b x.1 y.1
+
+gains : (p : Parts) (chips : List ChipId) (m : Move) → pos 0 <ℤ gain p chips m → cut p (moved chips m) < cut p chips
+unfolding gain
+gains p chips m h = omega (arith, ints)
+
+gains_none : (p : Parts) (chips : List ChipId) (m : Move) → gain p chips m ≤ℤ pos 0 → cut p chips ≤ cut p (moved chips m)
+unfolding gain
+gains_none p chips m h = omega (arith, ints)
+
+pub lowered : DescentsLowerTheCut
+lowered p rooms start end [] d = (
+  subst (λ (chips : List ChipId). cut p chips + 0 ≤ cut p start) d.0 (omega arith),
+  subst (λ (chips : List ChipId). (m : Move) → IsMove p rooms chips m → cut p chips ≤ cut p (moved chips m)) d.0 (λ m is. gains_none p start m (d.1 m is)),
+)
+lowered p rooms start end (m ∷ ms) d =
+    let rest = lowered p rooms (moved start m) end ms d.2 in
+    let h = rest.0 in
+    let g = gains p start m d.1 in
+    (omega (arith, h, g), rest.1)

@@ -1,7 +1,7 @@
 -- Tables in which each number stands in the lists of its heads, as they are filled, and what they come to.
 use Rattle.std.proofs.Common.{◌≡◌, ◌<◌, ◌≤◌, ◌+◌, ℕ, zero, suc, Bool, true, false, List, [], ◌∷◌, ◌++◌, length, get_or, map, refl, sym, ap, ◌∙◌, subst, arith, inl, inr}
 use Rattle.std.specs.Prelude.{◌==◌, ◌||◌, ◌&&◌, ◌⊎◌, Some, None, Option, All, is_some, if◌then◌else◌, flat_map, option_map, option_to_list, unwrap_or, slice_get}
-use Rattle.std.specs.List.{list_any, filter, range_with_len}
+use Rattle.std.specs.List.{list_any, filter}
 use Rattle.std.proofs.lemmas.Bool.{cases_eq, eq-eqb}
 use Rattle.std.proofs.lemmas.Option.{none-some, same_Some, slice_get-get_or}
 use Rattle.std.proofs.lemmas.List.Folds.{list_any-append}
@@ -30,12 +30,6 @@ module _ (heads : ℕ → List ℕ) (lists n : ℕ) (table : List (List ℕ)) (s
   stand_more new u = record {
     count = u.count ∙ s.count;
     each = λ j. u.each j ∙ ap (put_if (has j (heads n)) n) (s.each j) ∙ sym (filter_more (λ i. has j (heads i)) n);
-  }
-
-  pub stand_none : heads n ≡ [] → Stand heads lists (n + 1) table
-  stand_none e = record {
-    count = s.count;
-    each = λ j. s.each j ∙ ap (λ b. put_if b n (filter (λ i. has j (heads i)) (range_with_len 0 n))) (sym (ap (has j) e)) ∙ sym (filter_more (λ i. has j (heads i)) n);
   }
 
 -- what stands in a list is below a bound

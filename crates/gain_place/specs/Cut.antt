@@ -15,6 +15,7 @@ abbrev pub readers_away : Parts → List ChipId → ℕ → Option ℕ → ℕ
 readers_away p chips n None = 0
 readers_away p chips n (Some h) = count_by (λ c. is_reader p chips n c && not (h == c)) chip_numbers
 
+-- the same of a net with the home that it has
 abbrev pub crossings : Parts → List ChipId → ℕ → ℕ
 crossings p chips n = readers_away p chips n (home p chips n)
 

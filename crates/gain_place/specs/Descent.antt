@@ -7,6 +7,7 @@ use Rattle.design_core.specs.Weight.{weight}
 use Rattle.seed_place.specs.Rooms.{load, room}
 use Rattle.gain_place.specs.declared.moves.Move.{Move}
 use Rattle.gain_place.specs.Homes.{chip_at}
+use Rattle.gain_place.specs.Cut.{cut}
 use Rattle.gain_place.specs.Gain.{moved, gain}
 
 -- the weight of an element, by its number
@@ -25,7 +26,8 @@ pub record IsMove (p : Parts) (rooms : List ℕ) (chips : List ChipId) (m : Move
 pub record IsBest (p : Parts) (rooms : List ℕ) (chips : List ChipId) (m : Move) : Type 0 where
   pub move : IsMove p rooms chips m
   pub greatest : (other : Move) → IsMove p rooms chips other → gain p chips other ≤ℤ gain p chips m
-  pub lowest : (other : Move) → IsMove p rooms chips other → gain p chips other ≡ gain p chips m → m.elem.place ≤ other.elem.place
+  pub lowest : (other : Move) → IsMove p rooms chips other → gain p chips other ≡ gain p chips m
+      → m.elem.place ≤ other.elem.place
   pub lowest_chip : (other : Move) → IsMove p rooms chips other → gain p chips other ≡ gain p chips m → other.elem ≡ m.elem
       → m.to.place ≤ other.to.place
 
@@ -33,10 +35,12 @@ pub record IsBest (p : Parts) (rooms : List ℕ) (chips : List ChipId) (m : Move
 abbrev pub NoneGains : Parts → List ℕ → List ChipId → Type 0
 NoneGains p rooms chips = (m : Move) → IsMove p rooms chips m → gain p chips m ≤ℤ pos 0
 
--- these moves, each the best and of positive gain, lead from a placement to one from which no move has positive gain
+-- these moves, each the best and of positive gain, lead from a placement to one from which no move has
+-- positive gain
 abbrev pub IsDescent : Parts → List ℕ → List ChipId → List Move → List ChipId → Type 0
 IsDescent p rooms chips [] end = (chips ≡ end) × NoneGains p rooms chips
-IsDescent p rooms chips (m ∷ ms) end = IsBest p rooms chips m × (pos 0 <ℤ gain p chips m) × IsDescent p rooms (moved chips m) ms end
+IsDescent p rooms chips (m ∷ ms) end =
+    IsBest p rooms chips m × (pos 0 <ℤ gain p chips m) × IsDescent p rooms (moved chips m) ms end
 
 -- the descent of a placement ends here
 abbrev pub Descends : Parts → List ℕ → List ChipId → List ChipId → Type 0
@@ -46,3 +50,9 @@ Descends p rooms start end = (ms : List Move) × IsDescent p rooms start ms end
 abbrev pub EachStartHasOneEnd : Type 0
 EachStartHasOneEnd =
     (p : Parts) (rooms : List ℕ) (start first second : List ChipId) → Descends p rooms start first → Descends p rooms start second → first ≡ second
+
+-- Each move of a descent takes at least 1 from the cut, and no move from its end takes any.
+abbrev pub DescentsLowerTheCut : Type 0
+DescentsLowerTheCut =
+    (p : Parts) (rooms : List ℕ) (start end : List ChipId) (ms : List Move) → IsDescent p rooms start ms end
+    → (cut p end + length ms ≤ cut p start) × ((m : Move) → IsMove p rooms end m → cut p end ≤ cut p (moved end m))

@@ -11,10 +11,11 @@ use Rattle.design_core.specs.declared.element.Element.TheVariants as element
 use Rattle.design_core.specs.declared.parts.Parts.{Parts}
 use Rattle.design_core.specs.Design.{driver, includes, is_memory, element_reads, memory_reads, net_count}
 
--- the elements and the nets of a design, by number
+-- the elements of a design, by number
 abbrev pub elements : Parts → List ℕ
 elements p = range_with_len 0 (length p.elements)
 
+-- the nets of a design, by number
 abbrev pub nets : Parts → List ℕ
 nets p = range_with_len 0 (net_count p)
 
@@ -30,6 +31,7 @@ source_of p Input = None
 source_of p (Elem e) = Some e.place
 source_of p (Read m port bit) = position (is_memory m.place) p.elements
 
+-- the element that drives a net
 abbrev pub source : Parts → ℕ → Option ℕ
 source p n = source_of p (driver p n)
 
@@ -42,6 +44,7 @@ abbrev pub pins : Parts → Element → List NetId
 pins p (element.Memory m) = unwrap_or (option_map memory_reads (slice_get p.memories m.place)) []
 pins p other = element_reads other
 
+-- those of the element of a number
 abbrev pub pins_at : Parts → ℕ → List NetId
 pins_at p k = unwrap_or (option_map (pins p) (slice_get p.elements k)) []
 

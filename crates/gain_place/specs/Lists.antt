@@ -6,11 +6,12 @@ use Rattle.link_rows.specs.Rows.{has}
 abbrev pub at : List (List ℕ) → ℕ → List ℕ
 at table k = slice_index_or table k []
 
--- whether a number is the last of a list
+-- whether a number is the one that is there
 abbrev pub is_the : Option ℕ → ℕ → Bool
 is_the None number = false
 is_the (Some last) number = last == number
 
+-- whether a number is the last of a list
 abbrev pub is_last : ℕ → List ℕ → Bool
 is_last number xs = is_the (slice_get xs (length xs - 1)) number
 

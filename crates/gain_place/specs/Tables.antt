@@ -28,10 +28,11 @@ pub record AreLoads (p : Parts) (l : NetLoads) : Type 0 where
   pub loads : (n : ℕ) → n < net_count p → at l.loads n ≡ loads_of p n
   pub nets : (k : ℕ) → k < length p.elements → at l.nets k ≡ nets_of p k
 
--- the nets that an element drives, then those at its pins as they come, one perhaps several times
+-- the nets that an element drives
 abbrev pub driven_of : Parts → ℕ → List ℕ
 driven_of p k = filter (λ n. is_source (source p n) k) (nets p)
 
+-- the nets at the pins that an element reads, as they come, then those that it drives
 abbrev pub touched : Parts → ℕ → List ℕ
 touched p k = map (λ n. n.place) (pins_at p k) ++ driven_of p k
 
@@ -40,16 +41,18 @@ pub record Stand (heads : ℕ → List ℕ) (lists done : ℕ) (table : List (Li
   pub count : length table ≡ lists
   pub each : (j : ℕ) → at table j ≡ filter (λ i. has j (heads i)) (range_with_len 0 done)
 
--- for each element the first nets that it drives; for each net the first elements at it; and for each element
--- the first nets that have a home and that it is at
+-- for each element those of the first nets that it drives
 abbrev pub AreDriven : Parts → ℕ → List (List ℕ) → Type 0
 AreDriven p done table = Stand (λ n. option_to_list (source p n)) (length p.elements) done table
 
+-- for each net those of the first elements that drive or read it
 abbrev pub AreNetLoads : Parts → ℕ → List (List ℕ) → Type 0
 AreNetLoads p done table = Stand (touched p) (net_count p) done table
 
+-- the elements at a net that has a home
 abbrev pub homed_loads : Parts → ℕ → List ℕ
 homed_loads p n = if is_some (source p n) then loads_of p n else []
 
+-- for each element those of the first nets that have a home and that it drives or reads
 abbrev pub AreNets : Parts → ℕ → List (List ℕ) → Type 0
 AreNets p done table = Stand (homed_loads p) (length p.elements) done table

@@ -9,9 +9,11 @@ use Rattle.design_core.specs.declared.parts.Parts.{Parts}
 use Rattle.gain_place.specs.Cut.{cut}
 use Rattle.gain_place.specs.Gain.{gain}
 
+-- a net, by number
 abbrev pub net : ℕ → NetId
 net n = record { place = n }
 
+-- a chip, by number
 abbrev pub chip : ℕ → ChipId
 chip c = record { place = c }
 
@@ -20,7 +22,10 @@ abbrev pub example : Parts
 example = record {
   net_names = replicate 6 (record { scope = 0; name = []; index = None });
   scopes = record { parent = None; name = [] } ∷ [];
-  elements = element.Gate Buf (net 2 ∷ []) (net 5) ∷ element.Gate And (net 2 ∷ net 2 ∷ []) (net 4) ∷ element.Gate Buf (net 5 ∷ []) (net 3) ∷ [];
+  elements =
+      element.Gate Buf (net 2 ∷ []) (net 5)
+      ∷ element.Gate And (net 2 ∷ net 2 ∷ []) (net 4)
+      ∷ element.Gate Buf (net 5 ∷ []) (net 3) ∷ [];
   paths = 0 ∷ 0 ∷ 0 ∷ [];
   memories = [];
   inputs = record { name = []; nets = net 2 ∷ [] } ∷ [];

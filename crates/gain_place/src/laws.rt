@@ -1,12 +1,18 @@
-//! The law of the descent, and a worked case.
+//! The laws of the descent, and a worked case.
 
-ghost use Rattle.gain_place.specs.Descent.{EachStartHasOneEnd};
+ghost use Rattle.gain_place.specs.Descent.{DescentsLowerTheCut, EachStartHasOneEnd};
 ghost use Rattle.gain_place.specs.Worked.{ExampleHolds};
 
 /// For every placement: the descent ends at one placement at most, since each of its moves is the only one
 /// that is best.
 pub fn each_start_has_one_end()
     ensures { EachStartHasOneEnd }
+{}
+
+/// Each move of a descent takes at least 1 from the cut, so it has no more moves than the cut of its start; and
+/// no move from its end takes any.
+pub fn descents_lower_the_cut()
+    ensures { DescentsLowerTheCut }
 {}
 
 /// The worked case of the rule: a cut of 1, and a move that gains 1.

@@ -16,7 +16,7 @@ mod tables;
 
 pub use cutting::cut;
 pub use gains::gain_of;
-pub use laws::{each_start_has_one_end, example_holds};
+pub use laws::{descents_lower_the_cut, each_start_has_one_end, example_holds};
 pub use loads::Loads;
 pub use moves::Move;
 pub use steps::Steps;
