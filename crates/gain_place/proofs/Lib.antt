@@ -7,3 +7,4 @@ mod Spanning
 mod Trades
 mod OneEnd
 mod Example
+mod Rooms

@@ -4,7 +4,7 @@ use Rattle.std.specs.Prelude.{◌≡◌, ◌≢◌, ◌<◌, ◌≤◌, ◌+◌,
 use Rattle.id_arena.specs.declared.keys.ChipId.{ChipId}
 use Rattle.design_core.specs.declared.parts.Parts.{Parts}
 use Rattle.design_core.specs.Weight.{weight}
-use Rattle.seed_place.specs.Rooms.{load, room}
+use Rattle.seed_place.specs.Rooms.{IsWithinRooms, load, room}
 use Rattle.gain_place.specs.declared.moves.Move.{Move}
 use Rattle.gain_place.specs.Homes.{chip_at}
 use Rattle.gain_place.specs.Cut.{cut}
@@ -56,3 +56,9 @@ abbrev pub DescentsLowerTheCut : Type 0
 DescentsLowerTheCut =
     (p : Parts) (rooms : List ℕ) (start end : List ChipId) (ms : List Move) → IsDescent p rooms start ms end
     → (cut p end + length ms ≤ cut p start) × ((m : Move) → IsMove p rooms end m → cut p end ≤ cut p (moved end m))
+
+-- a descent from a placement within the rooms of a board ends within them
+abbrev pub DescentsKeepRooms : Type 0
+DescentsKeepRooms =
+    (p : Parts) (rooms : List ℕ) (start end : List ChipId) (ms : List Move) → IsWithinRooms p rooms start → IsDescent p rooms start ms end
+    → IsWithinRooms p rooms end

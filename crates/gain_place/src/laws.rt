@@ -1,6 +1,6 @@
 //! The laws of the descent, and a worked case.
 
-ghost use Rattle.gain_place.specs.Descent.{DescentsLowerTheCut, EachStartHasOneEnd};
+ghost use Rattle.gain_place.specs.Descent.{DescentsKeepRooms, DescentsLowerTheCut, EachStartHasOneEnd};
 ghost use Rattle.gain_place.specs.Worked.{ExampleHolds};
 
 /// For every placement: the descent ends at one placement at most, since each of its moves is the only one
@@ -13,6 +13,11 @@ pub fn each_start_has_one_end()
 /// no move from its end takes any.
 pub fn descents_lower_the_cut()
     ensures { DescentsLowerTheCut }
+{}
+
+/// A descent from a placement that keeps the rooms of a board ends at one that keeps them.
+pub fn descents_keep_rooms()
+    ensures { DescentsKeepRooms }
 {}
 
 /// The worked case of the rule: a cut of 1, and a move that gains 1.

@@ -16,7 +16,9 @@ mod tables;
 
 pub use cutting::cut;
 pub use gains::gain_of;
-pub use laws::{descents_lower_the_cut, each_start_has_one_end, example_holds};
+pub use laws::{
+    descents_keep_rooms, descents_lower_the_cut, each_start_has_one_end, example_holds,
+};
 pub use loads::Loads;
 pub use moves::Move;
 pub use steps::Steps;
