@@ -8,3 +8,4 @@ mod Trades
 mod OneEnd
 mod Example
 mod Rooms
+mod Staying

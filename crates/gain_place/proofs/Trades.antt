@@ -47,7 +47,7 @@ abbrev bit : Bool → ℕ
 bit b = cond b 1 0
 
 -- two sums over numbers that differ by what is counted of those that pass a test
-traded : (F G : ℕ → ℕ) (A B q : ℕ → Bool) (end : ℕ)
+pub traded : (F G : ℕ → ℕ) (A B q : ℕ → Bool) (end : ℕ)
     → ((n : ℕ) → n < end → q n ≡ true → F n + bit (B n) ≡ G n + bit (A n))
     → ((n : ℕ) → n < end → q n ≡ false → F n ≡ G n)
     → (s m : ℕ) → s + m ≤ end

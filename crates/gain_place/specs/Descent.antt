@@ -1,12 +1,13 @@
 -- Which moves may be made, the best of them, and the descent of a placement.
 -- The rule is told in docs/RULES.md, "Cut and descent".
-use Rattle.std.specs.Prelude.{◌≡◌, ◌≢◌, ◌<◌, ◌≤◌, ◌+◌, ℕ, pos, ◌<ℤ◌, ◌≤ℤ◌, List, [], ◌∷◌, length, option_map, unwrap_or, slice_get}
+use Rattle.std.specs.Prelude.{◌≡◌, ◌≢◌, ◌<◌, ◌≤◌, ◌+◌, ◌^◌, ◌==◌, ◌&&◌, ◌||◌, ℕ, Bool, false, is_some, pos, ◌<ℤ◌, ◌≤ℤ◌, List, [], ◌∷◌, length, option_map, unwrap_or, slice_get}
+use Rattle.std.specs.List.{list_any}
 use Rattle.id_arena.specs.declared.keys.ChipId.{ChipId}
 use Rattle.design_core.specs.declared.parts.Parts.{Parts}
 use Rattle.design_core.specs.Weight.{weight}
 use Rattle.seed_place.specs.Rooms.{IsWithinRooms, load, room}
 use Rattle.gain_place.specs.declared.moves.Move.{Move}
-use Rattle.gain_place.specs.Homes.{chip_at}
+use Rattle.gain_place.specs.Homes.{chip_at, nets, source, touches}
 use Rattle.gain_place.specs.Cut.{cut}
 use Rattle.gain_place.specs.Gain.{moved, gain}
 
@@ -62,3 +63,20 @@ abbrev pub DescentsKeepRooms : Type 0
 DescentsKeepRooms =
     (p : Parts) (rooms : List ℕ) (start end : List ChipId) (ms : List Move) → IsWithinRooms p rooms start → IsDescent p rooms start ms end
     → IsWithinRooms p rooms end
+
+-- whether two elements share a net that has a home, or are one
+abbrev pub shares : Parts → ℕ → ℕ → Bool
+shares p k j = (j == k) || list_any (λ n. is_some (source p n) && (touches p n k && touches p n j)) (nets p)
+
+-- a move leaves the gain of each move of an element that shares no net with a home with the moved one
+abbrev pub OthersKeepTheirGains : Type 0
+OthersKeepTheirGains =
+    (p : Parts) (chips : List ChipId) (m other : Move)
+    → length chips ≡ length p.elements
+    → m.elem.place < length p.elements
+    → other.elem.place < length p.elements
+    → ((k : ℕ) → k < length p.elements → chip_at chips k < 2 ^ 32)
+    → m.to.place < 2 ^ 32
+    → other.to.place < 2 ^ 32
+    → shares p m.elem.place other.elem.place ≡ false
+    → gain p (moved chips m) other ≡ gain p chips other

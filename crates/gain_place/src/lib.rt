@@ -18,6 +18,7 @@ pub use cutting::cut;
 pub use gains::gain_of;
 pub use laws::{
     descents_keep_rooms, descents_lower_the_cut, each_start_has_one_end, example_holds,
+    others_keep_their_gains,
 };
 pub use loads::Loads;
 pub use moves::Move;
