@@ -50,7 +50,10 @@ Descends p rooms start end = (ms : List Move) × IsDescent p rooms start ms end
 -- a placement has at most one end of its descent
 abbrev pub EachStartHasOneEnd : Type 0
 EachStartHasOneEnd =
-    (p : Parts) (rooms : List ℕ) (start first second : List ChipId) → Descends p rooms start first → Descends p rooms start second → first ≡ second
+    (p : Parts) (rooms : List ℕ) (start first second : List ChipId)
+    → Descends p rooms start first
+    → Descends p rooms start second
+    → first ≡ second
 
 -- Each move of a descent takes at least 1 from the cut, and no move from its end takes any.
 abbrev pub DescentsLowerTheCut : Type 0
@@ -61,7 +64,9 @@ DescentsLowerTheCut =
 -- a descent from a placement within the rooms of a board ends within them
 abbrev pub DescentsKeepRooms : Type 0
 DescentsKeepRooms =
-    (p : Parts) (rooms : List ℕ) (start end : List ChipId) (ms : List Move) → IsWithinRooms p rooms start → IsDescent p rooms start ms end
+    (p : Parts) (rooms : List ℕ) (start end : List ChipId) (ms : List Move)
+    → IsWithinRooms p rooms start
+    → IsDescent p rooms start ms end
     → IsWithinRooms p rooms end
 
 -- whether two elements share a net that has a home, or are one
