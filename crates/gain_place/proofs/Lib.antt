@@ -1,0 +1,11 @@
+mod Filled
+mod Ranges
+mod Added
+mod Sources
+mod Standing
+mod Spanning
+mod Trades
+mod OneEnd
+mod Example
+mod Rooms
+mod Staying
