@@ -288,7 +288,7 @@ body_read nets named gs rs ms before m1 m2 m3 m4 after e fits s1 g s2 r s3 m s4 
   forms_of nets named gs rs ms e fits g r m,
   s1 ∙ ap (λ ws. wires nets ++ ws) (s2 ∙ ap (λ ws. lines gate_words gs ++ ws) (s3 ∙ ap (λ ws. lines register_words rs ++ ws) (s4 ∙ ap (λ ws. lines memory_words ms ++ ws) s5
       ∙ sym (append_assoc (lines memory_words ms) ends after)) ∙ sym (append_assoc (lines register_words rs) (t4 ms) after)) ∙ sym (append_assoc (lines gate_words gs) (t3 rs ms) after))
-  ∙ sym (append_assoc (wires nets) (t2 gs rs ms) after),
+      ∙ sym (append_assoc (wires nets) (t2 gs rs ms) after),
 )
 
 -- the chip without anything

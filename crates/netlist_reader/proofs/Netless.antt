@@ -165,21 +165,24 @@ module _ (words : List Word) (k : ℕ) (w : Word) (there : slice_get words k ≡
 
   pub at_module : (declared : Bool) → w ≡ key MODULE → NamesDeclared (take k words) × (IsTrue declared ↔ HasWire (take k words)) → NamesDeclared (take (k + 1) words) × (IsTrue false ↔ HasWire (take (k + 1) words))
   at_module declared is was =
-      subst (λ ws. NamesDeclared ws × (IsTrue false ↔ HasWire ws)) (sym next)
-      (names_more (take k words) w was.0 (λ e. absurd (differ (key MODULE ∷ []) (first_net ∷ []) (λ i. (sym is ∙ e) i ∷ []) refl)),
-        (λ t. absurd (false≢true t), λ has. absurd (wire_module (take k words) (subst (λ v. HasWire (take k words ++ v ∷ [])) is has))))
+      subst (λ ws. NamesDeclared ws × (IsTrue false ↔ HasWire ws)) (sym next) (
+        names_more (take k words) w was.0 (λ e. absurd (differ (key MODULE ∷ []) (first_net ∷ []) (λ i. (sym is ∙ e) i ∷ []) refl)),
+        (λ t. absurd (false≢true t), λ has. absurd (wire_module (take k words) (subst (λ v. HasWire (take k words ++ v ∷ [])) is has))),
+      )
 
   pub at_wire : (declared : Bool) → w ≡ key WIRE → NamesDeclared (take k words) × (IsTrue declared ↔ HasWire (take k words)) → NamesDeclared (take (k + 1) words) × (IsTrue true ↔ HasWire (take (k + 1) words))
   at_wire declared is was =
-      subst (λ ws. NamesDeclared ws × (IsTrue true ↔ HasWire ws)) (sym next)
-      (names_more (take k words) w was.0 (λ e. absurd (differ (key WIRE ∷ []) (first_net ∷ []) (λ i. (sym is ∙ e) i ∷ []) refl)),
-        (λ t. subst (λ v. HasWire (take k words ++ v ∷ [])) (sym is) (wire_wire (take k words)), λ has. refl))
+      subst (λ ws. NamesDeclared ws × (IsTrue true ↔ HasWire ws)) (sym next) (
+        names_more (take k words) w was.0 (λ e. absurd (differ (key WIRE ∷ []) (first_net ∷ []) (λ i. (sym is ∙ e) i ∷ []) refl)),
+        (λ t. subst (λ v. HasWire (take k words ++ v ∷ [])) (sym is) (wire_wire (take k words)), λ has. refl),
+      )
 
   pub at_other : (declared : Bool) → w ≢ key MODULE → w ≢ key WIRE → (w ≡ first_net → IsTrue declared) → NamesDeclared (take k words) × (IsTrue declared ↔ HasWire (take k words)) → NamesDeclared (take (k + 1) words) × (IsTrue declared ↔ HasWire (take (k + 1) words))
   at_other declared no-module no-wire one was =
-      subst (λ ws. NamesDeclared ws × (IsTrue declared ↔ HasWire ws)) (sym next)
-      (names_more (take k words) w was.0 (λ e. was.1.0 (one e)),
-        (λ t. wire_on (take k words) w no-module (was.1.0 t), λ has. was.1.1 (wire_back (take k words) w no-wire has)))
+      subst (λ ws. NamesDeclared ws × (IsTrue declared ↔ HasWire ws)) (sym next) (
+        names_more (take k words) w was.0 (λ e. was.1.0 (one e)),
+        (λ t. wire_on (take k words) w no-module (was.1.0 t), λ has. was.1.1 (wire_back (take k words) w no-wire has)),
+      )
 
   -- behind any token
   pub at_next : (kind : TokenKind) (bytes : List ℕ) (declared after : Bool) → w ≡ record { kind = kind; name = bytes_of kind bytes } → after ≡ declared_behind kind declared → (w ≡ first_net → IsTrue declared) → NamesDeclared (take k words) × (IsTrue declared ↔ HasWire (take k words)) → NamesDeclared (take (k + 1) words) × (IsTrue after ↔ HasWire (take (k + 1) words))

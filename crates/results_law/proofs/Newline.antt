@@ -44,7 +44,7 @@ behind begin_array r s h a = ap (λ l. token begin_array ∷ l) a.same
 behind end_array r s h a = ap (λ l. token end_array ∷ l) a.same
 behind (key k) r s h a =
     ap (lex between) (append_assoc (quoted k) (58 ∷ []) r) ∙ quoted_first k (58 ∷ r)
-    ∙ ap (λ l. token (string k) ∷ l) (ap (λ l. lex between (58 ∷ [] ) ++ l) a.same)
+    ∙ ap (λ l. token (string k) ∷ l) (ap (λ l. lex between (58 ∷ []) ++ l) a.same)
     ∙ sym (ap (lex between) (append_assoc (quoted k) (58 ∷ []) s) ∙ quoted_first k (58 ∷ s))
 behind (string k) r s h a = quoted_first k r ∙ ap (λ l. token (string k) ∷ l) a.same ∙ sym (quoted_first k s)
 behind (number k) r s h a = lex-number k r h (a.left refl) ∙ ap (λ l. token (number k) ∷ l) a.same ∙ sym (lex-number k s h (a.right refl))
@@ -80,7 +80,7 @@ unfolding lex print_from ArePrintable
 lexed c [] h = refl
 lexed c (t ∷ ts) h =
     ap (lex between) (append_assoc (separator c t) (token_text t ++ print_from (ends t) ts) (10 ∷ [])
-        ∙ ap (λ l. separator c t ++ l) (append_assoc (token_text t) (print_from (ends t) ts) (10 ∷ [])))
+    ∙ ap (λ l. separator c t ++ l) (append_assoc (token_text t) (print_from (ends t) ts) (10 ∷ [])))
     ∙ comma_first (c && begins t) (token_text t ++ line (print_from (ends t) ts)) (token_text t ++ print_from (ends t) ts)
     (behind t (line (print_from (ends t) ts)) (print_from (ends t) ts) h.0 (record {
       same = lexed (ends t) ts h.1;

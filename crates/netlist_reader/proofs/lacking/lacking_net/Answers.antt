@@ -19,8 +19,8 @@ tokens-preserved c =
     at_next (words_of c.args.source.now c.args.tokens.now) c.tokens.place (word_of c.args.source.now c.token.result) (got_word c.args.source.now c.token.result c.args.tokens.now c.tokens.place c.token.ensures)
     _ _ _ _ refl c.declared_behind-declared.ensures
     (λ e. elim c.else-not-declared.branch [
-      else-not-declared-via-then-not-declared+else-is_word_at w ↦ absurd (not_so _ _ w.if-is_word_at.false w.is_word_at.ensures
-          (got_word c.args.source.now c.token.result c.args.tokens.now c.tokens.place c.token.ensures ∙ ap Some e ∙ ap Some (sym first_net_is) ∙ ap Some (sym c.name-first.ensures))) |
-      else-not-declared-via-else-not-declared w ↦ w.if-not-declared.false
+      | else-not-declared-via-then-not-declared+else-is_word_at w ↦ absurd (not_so _ _ w.if-is_word_at.false w.is_word_at.ensures
+          (got_word c.args.source.now c.token.result c.args.tokens.now c.tokens.place c.token.ensures ∙ ap Some e ∙ ap Some (sym first_net_is) ∙ ap Some (sym c.name-first.ensures)))
+      | else-not-declared-via-else-not-declared w ↦ w.if-not-declared.false
     ])
     c.tokens.invariant
