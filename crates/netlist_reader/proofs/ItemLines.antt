@@ -211,7 +211,7 @@ register_size register (suc (suc (suc zero))) some few e loaded = go register.d 
     go (Some d) (Some x) f = refl
 register_size register (suc (suc (suc (suc k)))) some few e loaded = absurd (omega arith)
 
-register_below : (nets : ℕ) (register : EmuRegister) → IsRegisterOf nets register → AreNetsOf nets (pins_of_register register)
+pub register_below : (nets : ℕ) (register : EmuRegister) → IsRegisterOf nets register → AreNetsOf nets (pins_of_register register)
 register_below nets register is = more_below nets register.q (register_pins register.d register.enable) is.q (go register.d register.enable is.d is.enable)
   where
     go : (d enable : Option ChipNetId) → IfSome d (λ n. n.place < nets) → IfSome enable (λ n. n.place < nets) → AreNetsOf nets (register_pins d enable)

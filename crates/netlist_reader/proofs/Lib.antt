@@ -5,6 +5,7 @@ pub mod Digits
 pub mod HexNumbers
 pub mod Instances
 pub mod ItemLines
+pub mod Netless
 pub mod MemoryLines
 pub mod MemoryNames
 pub mod Names

@@ -87,7 +87,7 @@ each_none {P = P} Is = λ k p e. absurd (no_port k p e)
     no_port : (j : ℕ) (q : P) → slice_get {X = P} [] j ≡ Some q → ⊥
     no_port j q f = cc
 
-each_one_more : {P : Type 0} (Is : P → Type 0) (p : P) (ports : List P) → Is p → Each Is ports → Each Is (p ∷ ports)
+pub each_one_more : {P : Type 0} (Is : P → Type 0) (p : P) (ports : List P) → Is p → Each Is ports → Each Is (p ∷ ports)
 each_one_more Is p ports is each zero q e = subst Is (same_Some p q e) is
 each_one_more Is p ports is each (suc k) q e = each k q e
 
@@ -191,7 +191,7 @@ cut_fits shape nets ns memory is cut all =
 form_possible : (nets : ℕ) (memory : EmuMemory) → IsMemoryOf nets memory → IsPossible (record { address_bits = memory.address_bits; width = memory.width; writes = length memory.writes; reads = length memory.reads })
 form_possible nets memory is = record { address_bits = is.address_bits; some_width = is.some_width; width = is.width; ports = is.ports }
 
-memory_below : (nets : ℕ) (memory : EmuMemory) → IsMemoryOf nets memory → AreNetsOf nets (memory_pins memory)
+pub memory_below : (nets : ℕ) (memory : EmuMemory) → IsMemoryOf nets memory → AreNetsOf nets (memory_pins memory)
 memory_below nets memory is =
     join_below nets (flat_map write_pins memory.writes) (flat_map read_pins memory.reads)
     (ports_below write_pins nets memory.writes (λ k port e. (let of = is.writes k port e in more_below nets port.enable (port.address ++ port.feed) of.enable (join_below nets port.address port.feed of.address of.feed))))
@@ -222,6 +222,19 @@ memory_holds shape nets k w room mid is possible l m n =
     only memory of e =
         let size = only_pins shape nets memory possible of (ap (λ (v : Word). v.name) (e ∙ is)) in
         record { enough = omega arith; few = omega arith; below = subst (λ j. AreNetsOf j (memory_pins memory)) (sym n) (memory_below nets memory of) }
+
+-- a memory whose terminals are nets of a chip is one of that chip
+pub memory_at : (m nets : ℕ) (memory : EmuMemory) → IsMemoryOf m memory → AreNetsOf nets (memory_pins memory) → IsMemoryOf nets memory
+memory_at m nets memory is all =
+    (cut_fits (record { address_bits = memory.address_bits; width = memory.width; writes = length memory.writes; reads = length memory.reads }) nets (memory_pins memory) memory (form_possible m memory is) (record {
+      address_bits = refl;
+      width = refl;
+      writes = refl;
+      reads = refl;
+      pins_are = refl;
+      write_sizes = λ k port e. ((is.writes k port e).address_bits, (is.writes k port e).width);
+      read_sizes = λ k port e. ((is.reads k port e).address_bits, (is.reads k port e).width);
+    }) all).0
 
 pub memory_room : (shape : MemoryShape) (nets : ℕ) (room : Room) → nets < 2 ^ 32 → (0 < pin_count shape → 0 < nets) → room.least ≡ pin_count shape → room.most ≡ pin_count shape → room.nets ≡ nets → IsRoom room
 memory_room shape nets room fits some l m n = record {

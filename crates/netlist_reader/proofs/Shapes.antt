@@ -45,7 +45,7 @@ key_op (Table t) n p e = absurd (keyed p e)
 -- Tables.
 
 -- a table of a cell fits 64 bits
-rows_fit : (k h : ℕ) → k ≤ 6 → h < 2 ^ (2 ^ k) → h < 2 ^ 64
+pub rows_fit : (k h : ℕ) → k ≤ 6 → h < 2 ^ (2 ^ k) → h < 2 ^ 64
 rows_fit zero h few fits = omega arith
 rows_fit (suc zero) h few fits = omega arith
 rows_fit (suc (suc zero)) h few fits = omega arith

@@ -67,16 +67,17 @@ tells_name source tokens k before bytes here is = record {
       sym (ap (λ (u : Word). u.name) found.2) ∙ sym (name_is (words_of source tokens) k found.0 found.1) ∙ sym is;
 }
 
+-- the word of a token
+pub got_word : (source : List ℕ) (token : Token) (ts : List Token) (j : ℕ) → slice_get ts j ≡ Some token → slice_get (words_of source ts) j ≡ Some (word_of source token)
+got_word source token [] j e = cc
+got_word source token (t ∷ ts) zero e = ap (λ (u : Token). Some (word_of source u)) (same_Some t token e)
+got_word source token (t ∷ ts) (suc j) e = got_word source token ts j e
+
 pub key_there : (source : List ℕ) (tokens : List Token) (k place : ℕ) (token : Token) (before : List Word) → drop k (words_of source tokens) ≡ before → slice_get tokens k ≡ Some token → token.kind ≡ Keyword place → Begins (λ w. w ≡ key place) before
 key_there source tokens k place token before here at is =
     subst (Begins (λ w. w ≡ key place)) here
-    (begins_get (λ w. w ≡ key place) (words_of source tokens) k (word_of source token) (got tokens k at) (keyed token.kind (slice_range source token.start token.end) is))
+    (begins_get (λ w. w ≡ key place) (words_of source tokens) k (word_of source token) (got_word source token tokens k at) (keyed token.kind (slice_range source token.start token.end) is))
   where
-    got : (ts : List Token) (j : ℕ) → slice_get ts j ≡ Some token → slice_get (words_of source ts) j ≡ Some (word_of source token)
-    got [] j e = cc
-    got (t ∷ ts) zero e = ap (λ (u : Token). Some (word_of source u)) (same_Some t token e)
-    got (t ∷ ts) (suc j) e = got ts j e
-
     keyed : (kind : TokenKind) (bytes : List ℕ) → kind ≡ Keyword place → ◌≡◌ {A = Word} (record { kind = kind; name = bytes_of kind bytes }) (key place)
     keyed kind bytes e = ap (λ (u : TokenKind). record { kind = u; name = bytes_of u bytes }) e
 

@@ -1,7 +1,7 @@
 -- Inside: the declarations of nets, and the modules of chips.
 use Rattle.std.specs.Prelude.{◌≡◌, ◌<◌, ◌^◌, ℕ}
 use Rattle.emu_machine.specs.declared.netlist.Chip.{Chip}
-use Rattle.netlist_reader.specs.Netlist.{HasForms}
+use Rattle.netlist_reader.specs.Faults.{HasLooseForms}
 use Rattle.token_words.specs.Word.{Word, key}
 use Rattle.verilog_lex.specs.declared.keyword.TheConstants.{MODULE, WIRE}
 
@@ -19,4 +19,4 @@ IsModuleWord nets word = word ≡ key MODULE
 
 -- the forms of a chip do not depend on what stands around it
 abbrev pub IsFormedChip : ℕ → Chip → Type 0
-IsFormedChip nets chip = HasForms chip
+IsFormedChip nets chip = HasLooseForms chip

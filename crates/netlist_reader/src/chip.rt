@@ -1,6 +1,7 @@
 //! The modules of chips.
 ghost use Rattle.std.specs.Prelude.{◌≡◌, ◌<◌, ◌^◌, length};
-ghost use Rattle.netlist_reader.specs.Netlist.{HasForms, body_words, wires};
+ghost use Rattle.netlist_reader.specs.Netlist.{body_words, wires};
+ghost use Rattle.netlist_reader.specs.Faults.{HasLooseForms, nets_over};
 ghost use Rattle.netlist_reader.specs.Inside.{Reads, ReadsAll};
 ghost use Rattle.netlist_reader.specs.Wires.{IsNetCount, IsWireWord};
 
@@ -34,15 +35,24 @@ fn take_wires(rest: &mut Rest) -> Result<u32, Stop>
     Ok(nets)
 }
 
+/// How many nets the instances of a chip may name. Those of a chip without nets begin all the same, and
+/// are wrong at the first net that they name; that net is found by `lacking_net`.
+fn named_nets(nets: u32) -> u32
+    ensures { result ≡ nets_over nets }
+{
+    if nets == 0 { 1 } else { nets }
+}
+
 /// Passes over what stands behind the head of a module.
 fn read_body(alloc: Global, rest: &mut Rest) -> Result<Chip, Stop>
     requires { length rest.old < 2 ^ 32 }
-    ensures { Reads HasForms body_words rest.old rest.new result }
+    ensures { Reads HasLooseForms body_words rest.old rest.new result }
 {
     let nets = take_wires(rest)?;
-    let gates: List<EmuGate> = read_lines(alloc, rest, nets)?;
-    let registers: List<EmuRegister> = read_lines(alloc, rest, nets)?;
-    let memories: List<EmuMemory> = read_lines(alloc, rest, nets)?;
+    let named = named_nets(nets);
+    let gates: List<EmuGate> = read_lines(alloc, rest, named)?;
+    let registers: List<EmuRegister> = read_lines(alloc, rest, named)?;
+    let memories: List<EmuMemory> = read_lines(alloc, rest, named)?;
     take(rest, Piece::Key(ENDMODULE))?;
     Ok(Chip {
         nets,

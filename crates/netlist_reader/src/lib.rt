@@ -12,6 +12,7 @@ mod fault;
 mod hex;
 mod instance;
 mod items;
+mod lacking;
 mod lines;
 mod netlist;
 mod numbered;

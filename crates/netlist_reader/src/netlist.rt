@@ -3,10 +3,11 @@ ghost use Rattle.std.specs.Prelude.{◌<◌, ◌^◌, IfOk, length};
 ghost use Rattle.token_words.specs.Words.{words_of};
 ghost use Rattle.emu_machine.specs.Building.{AreChips};
 ghost use Rattle.netlist_reader.specs.Faults.{Reading};
-ghost use Rattle.netlist_reader.specs.Stops.{ReadsNetlist};
+ghost use Rattle.netlist_reader.specs.Stops.{IsEarlier, ReadsNetlist};
 ghost use Rattle.netlist_reader.specs.Netlist.{NetlistsAreToldApart};
 
 use crate::fault::{NetlistFault, Stop};
+use crate::lacking::lacking_net;
 use crate::lines::read_lines;
 use crate::rest::Rest;
 use emu_io::List;
@@ -24,14 +25,30 @@ pub fn read_netlist(
     ensures reading { Reading (words_of source.now tokens.now) result }
     ensures chips { IfOk result AreChips }
 {
+    let lacking = lacking_net(source, tokens);
     let mut rest = Rest::new(source, tokens);
     match read_chips(alloc, &mut rest) {
-        Ok(chips) => Ok(chips),
+        Ok(chips) => match lacking {
+            None => Ok(chips),
+            Some(token) => Err(NetlistFault::Form { token }),
+        },
         Err(Stop::Stuck) => {
             let token = tokens.len() - rest.left();
-            Err(NetlistFault::Form { token })
+            Err(NetlistFault::Form {
+                token: earlier(lacking, token),
+            })
         }
         Err(Stop::NoMemory) => Err(NetlistFault::NoMemory),
+    }
+}
+
+/// The earlier of two tokens, where there is a first one.
+fn earlier(first: Option<u32>, second: u32) -> u32
+    ensures { IsEarlier first second result }
+{
+    match first {
+        Some(token) if token < second => token,
+        _ => second,
     }
 }
 

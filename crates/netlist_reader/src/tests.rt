@@ -41,7 +41,12 @@ fn netlists_are_read_or_their_token_is_named(rt: HostRuntime) -> Result<(), Fail
         (b"module chip0; wire n00;", 4),
         (b"module chip0; wire n0; EMEM_17_1_1_1 m0 (n0);", 6),
         (b"module chip0; wire n0; EMEM_0_1_0_0 m0 (n0);", 9),
-        (b"module chip0; and g0 (n0, n0);", 3),
+        (b"module chip0; and g0 (n0, n0);", 6),
+        (
+            b"module chip0; EMEM_0_1_0_0 m0 (); EMEM_0_1_1_1 m1 (n0);",
+            11,
+        ),
+        (b"module chip0; EHOLD r1 (n0);", 4),
         (b"module chip0; endmodule module chip2;", 5),
         (b"module chip0; wire n0;", 6),
     ] {

@@ -1,0 +1,9 @@
+pub mod Chips
+pub mod Fits
+pub mod Lexemes
+pub mod Maps
+pub mod Netlists
+pub mod Newline
+pub mod Schedules
+pub mod Trees
+pub mod Whole
