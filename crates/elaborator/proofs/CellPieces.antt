@@ -103,7 +103,7 @@ module _ (g : Given) (here : Inside) (inst : Inst) (kind : CellKind) (pins : Lis
   nets_full at new inner more fault n i m is =
       let count : length piece.net_names ≡ new + inner = names_count (length made.scopes) pins (inner_count kind) ∙ (λ j. sym n j + sym i j) in
       let same : beyond Nets at most_nets (length made.net_names + length piece.net_names) ≡ beyond Nets at most_nets (length made.net_names + more) =
-        rw (count, m, clamped (length made.net_names) (new + inner)) refl
+      rw (count, m, clamped (length made.net_names) (new + inner)) refl
       in
       full at [] piece made (length piece.net_names) (length piece.elements) (words_in piece.memories) fault refl refl refl refl
       (first_is (beyond Nets at most_nets (length made.net_names + length piece.net_names)) (later_tests at made (length piece.elements) (words_in piece.memories)) fault (same ∙ is))
@@ -134,7 +134,7 @@ module _ (g : Given) (here : Inside) (inst : Inst) (kind : CellKind) (pins : Lis
         let two : scoped ≡ joined (joined made (nets_alone piece.net_names)) (record nothing { scopes = own }) = s ∙ ap (λ (m : Made). joined m (record nothing { scopes = own })) same_names in
         let count : length scoped.memories ≡ length made.memories = ap (λ (m : Made). length m.memories) two ∙ rw (append-nil made.memories, append-nil made.memories) refl in
         let three : filled ≡ joined (joined (joined made (nets_alone piece.net_names)) (record nothing { scopes = own })) (elements_in (length made.scopes) piece.elements)
-          = f ∙ (λ j. joined (two j) (elements_in (scope_is j) (cell_elements (same_wires j) (next_is j + new_is j) (count j) kind)))
+        = f ∙ (λ j. joined (two j) (elements_in (scope_is j) (cell_elements (same_wires j) (next_is j + new_is j) (count j) kind)))
         in
         l
         ∙ (λ j. joined (three j) (record nothing { memories = cell_memories (same_wires j) kind }))
@@ -176,6 +176,6 @@ pub elements_put : (inside made : Made) (scope count memory : ℕ) (elements : �
 elements_put inside made scope count memory elements out ends same number o n e =
     let paths : replicate count scope ≡ map (λ (x : Element). scope) (elements memory) = splat_is_map (elements memory) count scope (sym n) in
     let here : record { net_names = inside.net_names; scopes = inside.scopes; elements = out; paths = ends; memories = inside.memories; modules = inside.modules } ≡ joined inside (elements_in scope (elements memory))
-      = rw (o, e, paths, append-nil inside.net_names, append-nil inside.scopes, append-nil inside.memories, zero_more inside.modules) refl
+    = rw (o, e, paths, append-nil inside.net_names, append-nil inside.scopes, append-nil inside.memories, zero_more inside.modules) refl
     in
     here ∙ (λ j. joined (same j) (elements_in scope (elements (number j))))

@@ -77,7 +77,7 @@ known g here at inst name made place cell found there = rw (found, there) refl
 pub row_at : (cells : List Cell) (rows : List ReadyCell) (place : ℕ) (cell : Cell) (ready : ReadyCell) → rows ≡ map ready_of cells → slice_get cells place ≡ Some cell → slice_get rows place ≡ Some ready → ready ≡ ready_of cell
 row_at cells rows place cell ready are there row =
     let same : Some ready ≡ Some (ready_of cell) =
-      sym row ∙ ap (λ (l : List ReadyCell). slice_get l place) are ∙ slice_get-map ready_of cells place ∙ ap (λ (o : Option Cell). option_map ready_of o) there
+    sym row ∙ ap (λ (l : List ReadyCell). slice_get l place) are ∙ slice_get-map ready_of cells place ∙ ap (λ (o : Option Cell). option_map ready_of o) there
     in
     cc
 

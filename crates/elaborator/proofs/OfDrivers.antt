@@ -1,5 +1,5 @@
 -- No step is refused for what drives a net: those faults come of building alone.
-use Rattle.std.proofs.Common.{◌≡◌, ◌+◌, ◌==◌, ℕ, zero, suc, Bool, true, false, cond, is_none, Option, Some, None, List, [], ◌∷◌, ◌++◌, Result, Ok, Err, ap, length, map, refl, subst, sym, tt}
+use Rattle.std.proofs.Common.{◌≡◌, ◌+◌, ◌==◌, ℕ, zero, suc, Bool, true, false, cond, is_none, Option, Some, None, List, [], ◌∷◌, ◌++◌, Result, Ok, Err, ap, length, map, refl, subst, sym}
 use Rattle.std.specs.Prelude.{flat_map, nat_lt, option_map, take}
 use Rattle.std.specs.List.{enumerate_from, list_any, zip}
 use Rattle.id_arena.specs.declared.keys.NetId.{NetId}
@@ -98,11 +98,13 @@ beyond_plain : (which : LimitKind) (at most count : ℕ) → IsPlain (beyond whi
 beyond_plain which at most count = failing (nat_lt most count) (fault.Limit which at) refl
 
 room_plain : (at : ℕ) (made piece : Made) → ArePlain (room_tests at made piece)
-room_plain at made piece =
-    (beyond_plain limit.Nets at most_nets (length made.net_names + length piece.net_names),
-     beyond_plain limit.Elements at most_elements (length made.elements + length piece.elements),
-     beyond_plain limit.Words at most_words (words_in made.memories + words_in piece.memories),
-     tt)
+room_plain at made piece = (
+  beyond_plain limit.Nets at most_nets (length made.net_names + length piece.net_names),
+  (
+    beyond_plain limit.Elements at most_elements (length made.elements + length piece.elements),
+    (beyond_plain limit.Words at most_words (words_in made.memories + words_in piece.memories), tt),
+  ),
+)
 
 performed_free : (at : ℕ) (deed : Deed) (made : Made) → ArePlain deed.tests → IsFree (performed at deed made)
 performed_free at deed made plain =
@@ -150,27 +152,32 @@ values_plain g here sockets (Ordered places) = flat_plain _ (zip sockets places)
 values_plain g here sockets (Named links) = flat_plain _ links (λ (link : NamedLink). place_plain g here (width_named sockets (name_in g link.port)) link.expr)
 
 link_plain : (g : Given) (sockets : List Socket) (links : List NamedLink) (k : ℕ) (link : NamedLink) → ArePlain (no_port_test g sockets link ∷ port_twice_test g (take k links) link ∷ [])
-link_plain g sockets links k link =
-    (passing (is_among (socket_names sockets) (name_in g link.port)) (fault.NoPort (start_in g link.port)) refl,
-     failing (is_among (map (λ other. name_in g other.port) (take k links)) (name_in g link.port)) (fault.PortTwice (start_in g link.port)) refl,
-     tt)
+link_plain g sockets links k link = (
+  passing (is_among (socket_names sockets) (name_in g link.port)) (fault.NoPort (start_in g link.port)) refl,
+  (failing (is_among (map (λ other. name_in g other.port) (take k links)) (name_in g link.port)) (fault.PortTwice (start_in g link.port)) refl, tt),
+)
 
 targets_plain : (g : Given) (sockets : List Socket) (at : ℕ) (links : Links) →
-    ArePlain (elim links [ | Empty ↦ [] | Ordered places ↦ count_test at sockets places ∷ [] | Named links ↦ link_tests g sockets links ])
+    ArePlain (elim links [ Empty ↦ [] | Ordered places ↦ count_test at sockets places ∷ [] | Named links ↦ link_tests g sockets links ])
 targets_plain g sockets at Empty = tt
 targets_plain g sockets at (Ordered places) = (passing (length places == length sockets) (fault.PortCount at) refl, tt)
-targets_plain g sockets at (Named links) = flat_plain _ (enumerate_from 0 links) (λ ((k, link) : ℕ × NamedLink). link_plain g sockets links k link)
+targets_plain g sockets at (Named links) = flat_plain (λ ((k, link) : ℕ × NamedLink). no_port_test g sockets link ∷ port_twice_test g (take k links) link ∷ []) (enumerate_from 0 links) (λ ((k, link) : ℕ × NamedLink). link_plain g sockets links k link)
 
 connections_plain : (g : Given) (here : Inside) (sockets : List Socket) (inst : Inst) → ArePlain (connection_tests g here sockets inst)
 connections_plain g here sockets inst =
     both_plain (target_tests g sockets inst) (value_tests g here sockets inst.links) (targets_plain g sockets (start_in g inst.name) inst.links) (values_plain g here sockets inst.links)
 
 standing_plain : (enter : Option Enter) (g : Given) (here : Inside) (at : ℕ) (inst : Inst) (place : ℕ) (child : Inside) (made : Made) → ArePlain (standing_tests enter g here at inst place child made)
-standing_plain enter g here at inst place child made =
-    (failing (list_any (λ other. other == place) here.around) (fault.Recursive at) refl,
-     failing (is_none enter) (fault.Limit limit.Depth at) refl,
-     beyond_plain limit.Instances at most_modules (made.modules + 1),
-     connections_plain g here (port_sockets g child.module_of) inst)
+standing_plain enter g here at inst place child made = (
+  failing (list_any (λ other. other == place) here.around) (fault.Recursive at) refl,
+  (
+    failing (is_none enter) (fault.Limit limit.Depth at) refl,
+    (
+      beyond_plain limit.Instances at most_modules (made.modules + 1),
+      connections_plain g here (port_sockets g child.module_of) inst,
+    ),
+  ),
+)
 
 -- steps one after the other
 followed_free : (outcome : Outcome) (next : Step) → IsFree outcome → Frees next → IsFree (followed outcome next)
@@ -209,10 +216,13 @@ module_free enter g here at inst place child enters made =
   where
     entered : Step
     entered = entering g (Some here.scope) (name_in g inst.name) child
+
     fed-in : Step
     fed-in = performed at (port_deed feeding g here inst child)
+
     items : Step
     items = items_of enter child
+
     fed-out : Step
     fed-out = performed at (port_deed fed g here inst child)
 
@@ -245,7 +255,7 @@ supply_free g here at one name made = performed_free at (supply_deed g here one 
 pair_free : (g : Given) (here : Inside) (at : ℕ) (pair : AssignPair) → Frees (performed at (pair_deed g here pair))
 unfolding pair_deed
 pair_free g here at pair made =
-    performed_free at (pair_deed g here pair) made (expression_plain g here None pair.left, expression_plain g here (Some (width_here g here pair.left)) pair.right, tt)
+    performed_free at (pair_deed g here pair) made (expression_plain g here None pair.left, (expression_plain g here (Some (width_here g here pair.left)) pair.right, tt))
 
 primitive_free : (g : Given) (here : Inside) (at : ℕ) (op : Op) (prim : GatePart) (made : Made) → IsFree (performed at (primitive_deed g here at op prim made) made)
 unfolding primitive_deed

@@ -1,5 +1,5 @@
 -- First places of names in lists that grow.
-use Rattle.std.proofs.Common.{◌≡◌, ℕ, Bool, true, false, ◌||◌, Option, Some, None, List, [], ◌∷◌, ◌++◌, ap, sym, ◌∙◌, refl, arith, cond, is_some, length, length-append}
+use Rattle.std.proofs.Common.{◌≡◌, ◌<◌, ℕ, Bool, true, false, ◌||◌, Option, Some, None, List, [], ◌∷◌, ◌++◌, ap, sym, ◌∙◌, refl, arith, cond, is_some, length, length-append}
 use Rattle.std.specs.Prelude.{bytes_eq}
 use Rattle.std.specs.Option.{option_or}
 use Rattle.std.proofs.lemmas.List.{get_or_append_left}
@@ -10,7 +10,7 @@ use Rattle.id_arena.proofs.FirstPlaces.{list_any-position, position-is, position
 use Rattle.module_nets.specs.Names.{Name, is_among}
 
 -- a name that is not among the names has no place
-none_place : (names : List Name) (name : Name) → is_among names name ≡ false → place_among names name ≡ None
+pub none_place : (names : List Name) (name : Name) → is_among names name ≡ false → place_among names name ≡ None
 none_place names name none = go (place_among names name) refl
   where
     go : (o : Option ℕ) → place_among names name ≡ o → o ≡ None
@@ -48,3 +48,11 @@ place_is_some names name = go (place_among names name) refl
     go : (o : Option ℕ) → place_among names name ≡ o → is_some o ≡ is_among names name
     go None e = sym (list_any-position (bytes_eq name) names e)
     go (Some p) e = let first = position-Some (bytes_eq name) names p [] e in sym (list_any_at (bytes_eq name) names p [] first.0 first.1)
+
+-- a name among the names has a place there
+pub place_there : (names : List Name) (name : Name) → is_among names name ≡ true → (p : ℕ) × (place_among names name ≡ Some p) × (p < length names)
+place_there names name among = go (place_among names name) refl
+  where
+    go : (o : Option ℕ) → place_among names name ≡ o → (p : ℕ) × (place_among names name ≡ Some p) × (p < length names)
+    go None e = absurd (let bad : true ≡ false = sym among ∙ list_any-position (bytes_eq name) names e in let no : ⊥ = cc in no)
+    go (Some p) e = (p, e, (position-Some (bytes_eq name) names p [] e).0)

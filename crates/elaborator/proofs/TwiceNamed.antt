@@ -23,7 +23,7 @@ name_there g (k ∷ ms) zero m = refl
 name_there g (k ∷ ms) (suc i) m = name_there g ms i m
 
 module _ (g : Given) (i : ℕ) (m : Module) (here : m ≡ get_or g.modules i m) (below : i < length g.modules) where
-  front : drop i g.modules ≡ m ∷ drop (i + 1) g.modules
+  pub front : drop i g.modules ≡ m ∷ drop (i + 1) g.modules
   front = drop-cons g.modules i m below ∙ ap (λ k. get_or g.modules i m ∷ drop k g.modules) (sym (add-one i)) ∙ ap (λ (k : Module). k ∷ drop (i + 1) g.modules) (sym here)
 
   split : first_fault (tests_from g i (drop i g.modules)) ≡ option_or (module_test g i m) (first_fault (tests_from g (i + 1) (drop (i + 1) g.modules)))

@@ -50,7 +50,7 @@ pub no_module : (g : Given) (name : Name) → place_among (module_names g) name 
 no_module g name none = ap (λ (o : Option ℕ). option_and_then (λ place. option_map (λ m. (place, m)) (slice_get g.modules place)) o) none
 
 -- what stands at a place of a list
-some_there : {A : Type 0} (xs : List A) (k : ℕ) → k < length xs → (x : A) × (slice_get xs k ≡ Some x)
+pub some_there : {A : Type 0} (xs : List A) (k : ℕ) → k < length xs → (x : A) × (slice_get xs k ≡ Some x)
 some_there [] k below = absurd (omega (arith, below))
 some_there (x ∷ xs) zero below = (x, refl)
 some_there (x ∷ xs) (suc k) below = some_there xs k (omega (arith, below))
@@ -174,7 +174,7 @@ module _ (room : ℕ) (g : Given) (here : Inside) (at : ℕ) (inst : Inst) (plac
       stands =
           ap (λ (k : Inside). module_steps (enter_of room g) g here at inst place k made) (sym child_is)
           ∙ ap (λ (s : List Socket). followed (unless (first_fault (level_tests room g here at place made ++ connection_tests g here s inst)) made) (all_steps (after (Some here.scope) (name_in g inst.name) child)))
-            (ap (λ (k : Inside). port_sockets g k.module_of) child_is ∙ sym are)
+          (ap (λ (k : Inside). port_sockets g k.module_of) child_is ∙ sym are)
           ∙ ap (λ t. followed (unless t made) (all_steps (after (Some here.scope) (name_in g inst.name) child))) none
           ∙ ap (λ (n : Name). all_steps (after (Some here.scope) n child) made) (sym named)
           ∙ ap (λ (p : Option ℕ). all_steps (after p name child) made) (sym within)

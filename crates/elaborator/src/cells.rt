@@ -17,9 +17,7 @@ use crate::room::word_count;
 use crate::setting::{Instance, Setting};
 use crate::sockets::Sockets;
 use crate::ties::read_links;
-use cell_parts::{
-    Pin, Pins, Wires, element_count, inner_count, new_count, pins_of, push_memory,
-};
+use cell_parts::{Pin, Pins, Wires, element_count, inner_count, new_count, pins_of, push_memory};
 use cell_table::{Cell, CellKind};
 use design_core::Scope;
 use emu_io::{List, NoMemory, Text};

@@ -37,7 +37,7 @@ fn has_module(setting: &Setting, top: &[u8]) -> bool
     ensures { result ≡ is_among (module_names setting.now) top.now }
 {
     'modules: for module in setting.modules {
-        if setting.name(module.name) == top {
+        if top == setting.name(module.name) {
             return true;
         }
     }
@@ -145,7 +145,14 @@ fn flat_parts(alloc: Global, setting: &Setting, top: &[u8]) -> Result<Parts, Ela
     let around = around.as_slice();
     let mut making = constants(alloc)?;
     let here = admit(
-        alloc, setting, None, top, around, module, ready, &mut making,
+        alloc,
+        setting,
+        None,
+        top,
+        around,
+        module,
+        ready,
+        &mut making,
     )?;
     do_items(
         alloc,

@@ -40,9 +40,7 @@ pub(crate) fn do_items(
     ensures { Does (items_step (enter_of room setting.now) setting.now instance.now) making.old making.new result }
 {
     'items: for item in instance.module_of.items.as_slice() {
-        do_item(
-            alloc, setting, modules, cells, instance, item, room, making,
-        )?;
+        do_item(alloc, setting, modules, cells, instance, item, room, making)?;
     }
     Ok(())
 }
@@ -174,21 +172,54 @@ fn do_module(
     let module = setting.module_at(place);
     let ready = modules.ready(setting, place);
     let tied = stand(
-        alloc, setting, here, at, inst, place, &ready.sockets, making, room,
+        alloc,
+        setting,
+        here,
+        at,
+        inst,
+        place,
+        &ready.sockets,
+        making,
+        room,
     )?;
     let around = around_of(alloc, place, here.around)?;
     let parent = Some(here.scope);
     let name = setting.name(inst.name);
     let child = admit(
-        alloc, setting, parent, name, around.as_slice(), module, ready, making,
+        alloc,
+        setting,
+        parent,
+        name,
+        around.as_slice(),
+        module,
+        ready,
+        making,
     )?;
     let ports = module.ports.as_slice();
     let tied = tied.as_slice();
     do_ports(
-        alloc, setting, Dir::Input, here, at, inst, &child, ports, tied, making,
+        alloc,
+        setting,
+        Dir::Input,
+        here,
+        at,
+        inst,
+        &child,
+        ports,
+        tied,
+        making,
     )?;
     do_items(alloc, setting, modules, cells, &child, room - 1, making)?;
     do_ports(
-        alloc, setting, Dir::Output, here, at, inst, &child, ports, tied, making,
+        alloc,
+        setting,
+        Dir::Output,
+        here,
+        at,
+        inst,
+        &child,
+        ports,
+        tied,
+        making,
     )
 }

@@ -305,8 +305,8 @@ module _ (rows : List (List ℕ)) (marks : List Mark) (next stack work bounds : 
           let same : b ≡ k = omega (arith, up, first) in
           subst (λ (i : ℕ). Leads rows (get_or stack i 0) (get_or stack i 0)) same
           (leads_on rows (get_or stack b 0) (get_or stack (b + 1) 0) (get_or stack b 0)
-              (s.joined.forth b (b + 1) (omega arith) more)
-              (s.joined.back b (b + 1) (omega arith) more (in_group (b + 1) b (omega arith))))
+          (s.joined.forth b (b + 1) (omega arith) more)
+          (s.joined.back b (b + 1) (omega arith) more (in_group (b + 1) b (omega arith))))
 
       go : (b + 1 < length stack) ⊎ (length stack ≤ b + 1) → Turns rows stack b → Leads rows (get_or stack k 0) (get_or stack k 0)
       go (inl more) t = many more (cases_lt b k)

@@ -80,11 +80,11 @@ rising_push bound more x xs r high low = record {
   low = each_push xs x (λ (k v : ℕ). v < more) (λ (k : ℕ) (b : k < length xs). let l = r.low k b in omega (arith, l, high, low)) low;
   rises = λ j k less below. each_push xs x (λ (k v : ℕ). j < k → get_or (xs ++ x ∷ []) j 0 < v)
       (λ (k : ℕ) (b : k < length xs) (l : j < k).
-          let first : j < length xs = omega (arith, b, l) in
-          subst (λ (v : ℕ). v < get_or xs k 0) (sym (in_front xs x j first)) (r.rises j k l b))
+      let first : j < length xs = omega (arith, b, l) in
+      subst (λ (v : ℕ). v < get_or xs k 0) (sym (in_front xs x j first)) (r.rises j k l b))
       (λ (l : j < length xs).
-          let low = r.low j l in
-          subst (λ (v : ℕ). v < x) (sym (in_front xs x j l)) (omega (arith, low, high)))
+      let low = r.low j l in
+      subst (λ (v : ℕ). v < x) (sym (in_front xs x j l)) (omega (arith, low, high)))
       k below less;
 }
 

@@ -68,17 +68,17 @@ module _ (rows : List (List ℕ)) (marks : List Mark) (next stack work bounds : 
   joined = record {
     forth = λ i j less below. each_push stack d (λ (j v : ℕ). i < j → Leads rows (get_or (stack ++ d ∷ []) i 0) v)
         (λ (j : ℕ) (b : j < length stack) (l : i < j).
-            let first : i < length stack = omega (arith, b, l) in
-            subst (λ (v : ℕ). Leads rows v (get_or stack j 0)) (sym (in_front stack d i first)) (s.joined.forth i j l b))
+        let first : i < length stack = omega (arith, b, l) in
+        subst (λ (v : ℕ). Leads rows v (get_or stack j 0)) (sym (in_front stack d i first)) (s.joined.forth i j l b))
         (λ (l : i < length stack). subst (λ (v : ℕ). Leads rows v d) (sym (in_front stack d i l)) (link i l))
         j below less;
     back = λ i j less below away. each_push stack d (λ (j v : ℕ). i < j → NoLower (bounds ++ length stack ∷ []) j i → Leads rows v (get_or (stack ++ d ∷ []) i 0))
         (λ (j : ℕ) (b : j < length stack) (l : i < j) (h : NoLower (bounds ++ length stack ∷ []) j i).
-            let first : i < length stack = omega (arith, b, l) in
-            subst (λ (v : ℕ). Leads rows (get_or stack j 0) v) (sym (in_front stack d i first)) (s.joined.back i j l b (front_no bounds (length stack) j i h)))
+        let first : i < length stack = omega (arith, b, l) in
+        subst (λ (v : ℕ). Leads rows (get_or stack j 0) v) (sym (in_front stack d i first)) (s.joined.back i j l b (front_no bounds (length stack) j i h)))
         (λ (l : i < length stack) (h : NoLower (bounds ++ length stack ∷ []) (length stack) i).
-            let high : length stack ≤ i = last_no bounds (length stack) (length stack) i h (omega arith) in
-            absurd (omega (arith, high, l)))
+        let high : length stack ≤ i = last_no bounds (length stack) (length stack) i h (omega arith) in
+        absurd (omega (arith, high, l)))
         j below less away;
   }
 
@@ -111,7 +111,7 @@ module _ (rows : List (List ℕ)) (marks : List Mark) (next stack work bounds : 
     known = each_known;
     done = each_push stack d (λ (i v : ℕ). (Contains (work ++ length stack ∷ []) i → ⊥) → get_or next v 0 ≡ length (row rows v))
         (λ (i : ℕ) (b : i < length stack) (away : Contains (work ++ length stack ∷ []) i → ⊥).
-            s.come.done i b (λ (h : Contains work i). away (contains_front work (length stack) i h)))
+        s.come.done i b (λ (h : Contains work i). away (contains_front work (length stack) i h)))
         (λ (away : Contains (work ++ length stack ∷ []) (length stack) → ⊥). absurd (away (contains_last work (length stack))));
   }
     where
@@ -127,7 +127,7 @@ module _ (rows : List (List ℕ)) (marks : List Mark) (next stack work bounds : 
           → IsKnown (bounds ++ length stack ∷ []) i (mark_at after (get_or (row rows (get_or (stack ++ d ∷ []) i 0)) k 0))
       each_known i k below less =
           each_push stack d (λ (i v : ℕ). (k : ℕ) → k < get_or next v 0
-              → IsKnown (bounds ++ length stack ∷ []) i (mark_at after (get_or (row rows v) k 0)))
+          → IsKnown (bounds ++ length stack ∷ []) i (mark_at after (get_or (row rows v) k 0)))
           old
           (λ (k : ℕ) (l : k < get_or next d 0). let zero = s.come.blank d new in absurd (omega (arith, zero, l)))
           i below k less

@@ -84,9 +84,9 @@ module _ (rows : List (List ℕ)) (old new : Search) (s : Search_of rows old) wh
         keeps = enters_still d need_low is link e;
         known = subst (λ (m : Mark). IsKnown new.bounds.items p m) (sym (ap (λ (ms : List Mark). mark_at ms d) e.marks ∙ mark_same))
             (λ (k : ℕ) (below : k < length new.bounds.items) (low : get_or new.bounds.items k 0 ≤ p).
-                let l = after.places.bounds_rise.low k below in
-                let size : length new.stack.items ≡ length old.stack.items + 1 = ap length e.stack ∙ longer old.stack.items d in
-                omega (arith, l, size));
+            let l = after.places.bounds_rise.low k below in
+            let size : length new.stack.items ≡ length old.stack.items + 1 = ap length e.stack ∙ longer old.stack.items d in
+            omega (arith, l, size));
         next = e.next;
         here = let size : length new.stack.items ≡ length old.stack.items + 1 = ap length e.stack ∙ longer old.stack.items d in let l = place_low in omega (arith, l, size);
         node_same = ap (λ (xs : List ℕ). get_or xs p 0) e.stack ∙ in_front old.stack.items d p place_low;
@@ -145,12 +145,12 @@ module _ (rows : List (List ℕ)) (marks : List Mark) (next stack work bounds : 
   goes_on =
       subst (λ (n : ℕ). IsSearch rows marks (set next n (at + 1)) stack work bounds) is_node
       (subst (λ (a : ℕ). IsSearch rows marks (set next (get_or stack p 0) (a + 1)) stack work bounds) same_at
-          (further rows marks next stack work bounds s p here busy
-              (subst (λ (a : ℕ). a < length (row rows (get_or stack p 0))) (sym same_at)
-                  (subst (λ (n : ℕ). at < length (row rows n)) (sym is_node) more))
-              (subst (λ (a : ℕ). IsKnown bounds p (mark_at marks (get_or (row rows (get_or stack p 0)) a 0))) (sym same_at)
-                  (subst (λ (n : ℕ). IsKnown bounds p (mark_at marks (get_or (row rows n) at 0))) (sym is_node)
-                      (subst (λ (e : ℕ). IsKnown bounds p (mark_at marks e)) (sym need) known)))))
+      (further rows marks next stack work bounds s p here busy
+      (subst (λ (a : ℕ). a < length (row rows (get_or stack p 0))) (sym same_at)
+      (subst (λ (n : ℕ). at < length (row rows n)) (sym is_node) more))
+      (subst (λ (a : ℕ). IsKnown bounds p (mark_at marks (get_or (row rows (get_or stack p 0)) a 0))) (sym same_at)
+      (subst (λ (n : ℕ). IsKnown bounds p (mark_at marks (get_or (row rows n) at 0))) (sym is_node)
+      (subst (λ (e : ℕ). IsKnown bounds p (mark_at marks e)) (sym need) known)))))
     where
       same_at : get_or next (get_or stack p 0) 0 ≡ at
       same_at = ap (λ (n : ℕ). get_or next n 0) is_node ∙ is_at
@@ -218,7 +218,7 @@ module _ (rows : List (List ℕ)) (old : Search) (s : Search_of rows old)
   rests all =
       rested rows old.marks.items old.next.items old.stack.items old.work.items old.bounds.items s p here at_work
       (subst (λ (n : ℕ). length (row rows n) ≤ get_or old.next.items n 0) (sym node_is)
-          (subst (λ (xs : List ℕ). length xs ≤ get_or old.next.items node 0) is_row (let e = at_is in omega (arith, e, all))))
+      (subst (λ (xs : List ℕ). length xs ≤ get_or old.next.items node 0) is_row (let e = at_is in omega (arith, e, all))))
 
 -- a root is entered where the stack is empty
 module _ (rows : List (List ℕ)) (old new : Search) (s : Search_of rows old) (blank : old.bounds.items ≡ [])

@@ -10,10 +10,7 @@ pub enum Verdict {
     /// All these rules hold.
     Accepted,
     /// This rule fails, at this least place, and all rules before it hold.
-    Rejected {
-        rule: Rule,
-        place: Place,
-    },
+    Rejected { rule: Rule, place: Place },
 }
 
 /// The first rule that fails, with its least place, is the first failure of the results.

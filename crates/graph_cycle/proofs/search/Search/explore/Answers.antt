@@ -13,14 +13,14 @@ follow-requires c =
 pub returns-clause-search : goal.returns-clause-search
 returns-clause-search c =
     (explored _ c.args.self.now c.requires.search _ _ c.requires.last c.requires.work c.requires.group _ _ _ c.index-node.ensures c.row-needs.ensures c.index-at.ensures
-        c.follow.new.self c.if-at-needs.false c.in_ok-follow.ensures).search
+    c.follow.new.self c.if-at-needs.false c.in_ok-follow.ensures).search
 
 pub returns-clause-keeps : goal.returns-clause-keeps
 returns-clause-keeps c =
     (explored _ c.args.self.now c.requires.search _ _ c.requires.last c.requires.work c.requires.group _ _ _ c.index-node.ensures c.row-needs.ensures c.index-at.ensures
-        c.follow.new.self c.if-at-needs.false c.in_ok-follow.ensures).keeps
+    c.follow.new.self c.if-at-needs.false c.in_ok-follow.ensures).keeps
 
 pub returns-clause-less : goal.returns-clause-less
 returns-clause-less c =
     (explored _ c.args.self.now c.requires.search _ _ c.requires.last c.requires.work c.requires.group _ _ _ c.index-node.ensures c.row-needs.ensures c.index-at.ensures
-        c.follow.new.self c.if-at-needs.false c.in_ok-follow.ensures).less
+    c.follow.new.self c.if-at-needs.false c.in_ok-follow.ensures).less
