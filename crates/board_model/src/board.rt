@@ -65,6 +65,13 @@ impl Board {
         self.wires.len() as u32
     }
 
+    /// All wires, by number.
+    pub fn all_wires(&self) -> &[Wire]
+        ensures { result.now ≡ self.now.wires }
+    {
+        self.wires.as_slice()
+    }
+
     /// The chips that a wire goes from and to: two different chips of the board.
     pub fn ends(&self, wire: WireId) -> (ChipId, ChipId)
         requires { wire.place < length self.now.wires }

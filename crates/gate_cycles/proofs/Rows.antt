@@ -28,7 +28,7 @@ module _ (chip : Chip) (d : IsDriven chip) where
   one_gate n low = let one : net_drivers chip n ≡ 1 = d.driven n low in omega (arith, one)
 
   -- a net is driven by one gate
-  same_gate : (j k : ℕ) (gate other : EmuGate) → slice_get chip.gates j ≡ Some gate → slice_get chip.gates k ≡ Some other
+  pub same_gate : (j k : ℕ) (gate other : EmuGate) → slice_get chip.gates j ≡ Some gate → slice_get chip.gates k ≡ Some other
       → gate.output.place ≡ other.output.place → j ≡ k
   same_gate j k gate other aj ak e =
       let few = one_gate other.output.place (output_low k other ak) in
@@ -143,7 +143,7 @@ module _ (chip : Chip) (d : IsDriven chip) where
             (contains_at gate.inputs u.place g.gate.output (u.at ∙ ap Some (sym (same_id g.gate.output u.item g.drives))))
 
     -- and each gate that drives an input is named
-    row_has : (j k : ℕ) (from to : EmuGate) → slice_get chip.gates j ≡ Some from → slice_get chip.gates k ≡ Some to → Contains to.inputs from.output
+    pub row_has : (j k : ℕ) (from to : EmuGate) → slice_get chip.gates j ≡ Some from → slice_get chip.gates k ≡ Some to → Contains to.inputs from.output
         → Contains (row rows k) j
     row_has j k from to aj ak h =
         let low : j < length chip.gates = slice_get_within chip.gates j from aj in
@@ -164,7 +164,7 @@ module _ (chip : Chip) (d : IsDriven chip) where
         let from : j < length chip.gates = leader j n (row_gives n j h) in
         let c = row_count in omega (arith, from, c)
 
-    leads_back : (a b : ℕ) → Leads rows a b → LeadsTo chip b a
+    pub leads_back : (a b : ℕ) → Leads rows a b → LeadsTo chip b a
     leads_back a b (step x y h) = row_gives x y h
     leads_back a b (through x y z h l) = lead_through z y x (leads_back y z l) (row_gives x y h)
 

@@ -22,8 +22,8 @@ pub fn least_cyclic_gate(alloc: Global, chip: &Chip) -> Result<Option<u32>, NoMe
     least_on_cycle(alloc, &graph)
 }
 
-/// The graph of the gates: each depends on those that drive its inputs.
-fn gate_graph(alloc: Global, chip: &Chip) -> Result<Graph, NoMemory>
+/// The gates of a chip as a graph: each depends on those that drive its inputs.
+pub fn gate_graph(alloc: Global, chip: &Chip) -> Result<Graph, NoMemory>
     requires { IsDriven chip.now }
     ensures { IfOk result (λ rows. AreGateRows chip.now rows) }
 {

@@ -118,7 +118,7 @@ impl<T: NetValue> GatePass<T> {
     /// Gives each gate that waits its turn, in ranked order, until none waits.
     pub fn settle<R: GateRule<T>>(&mut self, rule: &R)
         requires others { OthersWait (R.gives rule.now) T.none self.old }
-        requires known { (k : ℕ) → k < length self.old.outputs → R.Knows rule.now k (length (row self.old.inputs k)) }
+        requires known { (k : ℕ) → k < length self.old.outputs → R.Knows rule.now k (row self.old.inputs k) }
         ensures { HasSettled (R.gives rule.now) T.none self.old self.new }
     {
         self.settle_blank::<R, Brand>(rule, Blank::new(1));
@@ -130,7 +130,7 @@ impl<T: NetValue> GatePass<T> {
         requires parts { blank.parts ≡ L.parts }
         requires some { L.parts ≡ 1 }
         requires others { OthersWait (R.gives rule.now) T.none self.old }
-        requires known { (k : ℕ) → k < length self.old.outputs → R.Knows rule.now k (length (row self.old.inputs k)) }
+        requires known { (k : ℕ) → k < length self.old.outputs → R.Knows rule.now k (row self.old.inputs k) }
         ensures { HasSettled (R.gives rule.now) T.none self.old self.new }
     {
         let mut steps: Steps<L> = Steps::new(blank);
@@ -140,7 +140,7 @@ impl<T: NetValue> GatePass<T> {
     /// The same, where each gate that has a turn may count one step.
     pub fn settle_counted<R: GateRule<T>, L: Ledger>(&mut self, rule: &R, steps: &mut Steps<L>)
         requires others { OthersWait (R.gives rule.now) T.none self.old }
-        requires known { (k : ℕ) → k < length self.old.outputs → R.Knows rule.now k (length (row self.old.inputs k)) }
+        requires known { (k : ℕ) → k < length self.old.outputs → R.Knows rule.now k (row self.old.inputs k) }
         ensures settled { HasSettled (R.gives rule.now) T.none self.old self.new }
         ensures counted { (turns : List ℕ) × WereDue T.none self.old self.new turns × (steps.new ≤ steps.old + length turns) }
     {
@@ -174,7 +174,7 @@ impl<T: NetValue> GatePass<T> {
     // Gives a gate its turn.
     fn take_turn<R: GateRule<T>, L: Ledger>(&mut self, rule: &R, gate: u32, steps: &mut Steps<L>)
         requires there { gate < length self.old.outputs }
-        requires known { R.Knows rule.now gate (length (row self.old.inputs gate)) }
+        requires known { R.Knows rule.now gate (row self.old.inputs gate) }
         ensures turn { HasHadTurn (R.gives rule.now) T.none gate self.old self.new }
         ensures steps { steps.new ≤ steps.old + 1 }
     {

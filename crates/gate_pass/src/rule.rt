@@ -28,12 +28,12 @@ pub trait GateRule<T: NetValue> {
     /// What a gate gives for the values of its inputs, in their order.
     ghost gives: { Self → ℕ → List T → T };
 
-    /// Which gates the rule speaks of, and for how many inputs.
-    ghost Knows: { Self → ℕ → ℕ → Type 0 };
+    /// Which gates the rule speaks of, and for which inputs.
+    ghost Knows: { Self → ℕ → List ℕ → Type 0 };
 
     /// What a gate gives for the values of its inputs. It may count one step.
     fn value<L: Ledger>(&self, gate: u32, inputs: &[u32], values: &[T], steps: &mut Steps<L>) -> T
-        requires known { Knows self.now gate (length inputs.now) }
+        requires known { Knows self.now gate inputs.now }
         requires there { All (λ n. n < length values.now) inputs.now }
         ensures value { result ≡ gives self.now gate (map (value_on T.none values.now) inputs.now) }
         ensures steps { steps.new ≤ steps.old + 1 };

@@ -1,0 +1,3 @@
+pub mod Through
+mod Ordered
+pub mod Passes

@@ -1,0 +1,3 @@
+pub mod Chips
+pub mod Inside
+pub mod Orders

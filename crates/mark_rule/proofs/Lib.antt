@@ -1,0 +1,4 @@
+pub mod Far
+pub mod Free
+mod Giving
+mod Telling

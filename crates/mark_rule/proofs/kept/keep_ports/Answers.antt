@@ -1,0 +1,21 @@
+-- One pair after the other is told.
+use Rattle.std.proofs.Common.{◌<◌, length, get_or, arith, false, Some, ap, sym, ◌∙◌}
+use Rattle.std.proofs.lemmas.Option.{slice_get-get_or}
+use Rattle.mark_rule.specs.Kept.{keeps_bits}
+use Rattle.mark_rule.proofs.Telling.{tells_pair, tells_pairs}
+use Rattle.mark_rule.proofs.kept.keep_ports.Goals as goal
+
+pub each-preserved : goal.each-preserved
+each-preserved c =
+    let low : c.each.i < length c.args.are_kept.now = omega (arith, c.requires, c.each-test.true) in
+    tells_pair keeps_bits c.args.ports.now c.args.are_kept.now c.each.i
+    c.index-ports-i.result
+    (get_or c.args.are_kept.now c.each.i false)
+    c.args.kept.now c.each.kept c.keep_port.new.kept
+    (slice_get-get_or c.args.ports.now c.each.i _ c.each-test.true ∙ ap Some (sym c.index-ports-i.is))
+    (slice_get-get_or c.args.are_kept.now c.each.i _ low)
+    c.each.invariant
+    c.keep_port.ensures
+
+pub returns : goal.returns
+returns c = tells_pairs keeps_bits c.args.ports.now c.args.are_kept.now c.each.i _ _ (omega (arith, c.each-test.false)) c.each.invariant

@@ -1,0 +1,8 @@
+use Rattle.std.proofs.Common.{take}
+use Rattle.std.specs.Prelude.{zip}
+use Rattle.std.specs.List.{list_any}
+use Rattle.mark_rule.specs.Kept.{TellsAlso, keeps_bits}
+use Rattle.mark_rule.proofs.kept.keep_ports.Given as goal
+
+abbrev pub invariant-each : goal.invariant-each
+invariant-each l = TellsAlso (λ n. list_any (keeps_bits n) (take l.i (zip l.ports l.are_kept))) l.initial.kept l.kept
