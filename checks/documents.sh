@@ -78,7 +78,8 @@ unmapped_definitions() {
 
 # faults that the printer has and the page of faults has not, and the other way round
 wrong_faults() {
-    diff <(grep -oE 'b" ?[A-Z][A-Za-z]+ ?"|rank [A-Z][a-z]+' crates/emu_app/src/answer.rt |
+    diff <(cat crates/emu_app/src/answer.rt crates/case_texts/src/printed.rt |
+        grep -oE 'b" ?[A-Z][A-Za-z]+ ?"|b"refused [a-z]+ [A-Z][A-Za-z]+ ?"|rank [A-Z][a-z]+' |
         grep -oE '[A-Z][A-Za-z]+' | sort -u) \
         <(grep -oE '^\| `[A-Z][A-Za-z]+`' docs/FAULTS.md | grep -oE '[A-Za-z]+' | sort -u) |
         sed -nE 's/^< (.*)/docs\/FAULTS.md: no row of \1/p; s/^> (.*)/docs\/FAULTS.md: nothing prints \1/p'

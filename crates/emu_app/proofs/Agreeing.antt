@@ -5,28 +5,26 @@ use Rattle.design_core.specs.Event.{IsHistory}
 use Rattle.design_core.specs.Valuation.{Valuation}
 use Rattle.emu_machine.specs.Acceptance.{Case}
 use Rattle.emu_machine.specs.Headline.{event_values}
-use Rattle.domain_groups.specs.Groups.{InputGroups}
 use Rattle.domain_groups.specs.Traces.{settled_trace}
 use Rattle.trace_law.specs.Traces.{SettledTraceIsOne}
 use Rattle.emu_app.specs.declared.recording.Recording.{Recording}
 use Rattle.emu_app.specs.declared.command.Command.TheVariants.{Settle}
-use Rattle.emu_app.specs.declared.what.What.{What}
-use Rattle.emu_app.specs.declared.what.What.TheVariants.{Design, Cells, Groups, Opening, Events}
+use Rattle.case_texts.specs.declared.what.What.{What}
+use Rattle.case_texts.specs.declared.what.What.TheVariants.{Design, Cells, Groups, Opening, Events}
 use Rattle.emu_app.specs.Command.{Reads}
-use Rattle.emu_app.specs.Fetching.{Texts}
-use Rattle.emu_app.specs.Reading.{StandFor, StandForSettle}
-use Rattle.emu_app.specs.Runs.{DesignSays, IsHistoryTrace, RecordingSays, opening_of}
+use Rattle.case_texts.specs.What.{Texts}
+use Rattle.case_texts.specs.Cases.{StandFor}
+use Rattle.emu_app.specs.Reading.{StandForSettle}
+use Rattle.emu_app.specs.Runs.{IsHistoryTrace, RecordingSays, opening_of}
 use Rattle.emu_app.specs.Answers.{SettleAndReplayAgree}
 use Rattle.emu_app.proofs.Completing.{first_too, recorded_too}
 
 -- a case and a recording that texts stand for are what `settle` runs, of all texts that are the same for it
 stands_too : (top : List ℕ) (texts others : Texts) (c : Case) (r : Recording) → ((what : What) → Reads Settle what → texts what ≡ others what) → StandFor top texts c → RecordingSays texts c.design r → StandForSettle top others c.design r
 stands_too top texts others c r same s recorded =
-    let v : InputGroups = s.board_says.plain.groups in
-    let first : DesignSays top texts c.design v = subst (λ (x : Case). DesignSays top texts x.design v) (sym s.is) s.board_says.plain.first in
     record {
-      groups = v;
-      first = first_too Settle top texts others c.design v (same Design (omega arith)) (same Cells (omega arith)) (same Groups (omega arith)) first;
+      groups = s.groups;
+      first = first_too top texts others c.design s.groups (same Design (omega arith)) (same Cells (omega arith)) (same Groups (omega arith)) s.first;
       recorded = recorded_too texts others c.design r (same Groups (omega arith)) (same Opening (omega arith)) (same Events (omega arith)) recorded;
     }
 

@@ -7,16 +7,17 @@ use Rattle.emu_app.specs.declared.answer.Answer.{Answer}
 use Rattle.emu_app.specs.declared.answer.Answer.TheVariants as answer
 use Rattle.emu_app.specs.declared.command.Command.{Command}
 use Rattle.emu_app.specs.declared.command.Command.TheVariants.{Check, Settle, Replay}
-use Rattle.emu_app.specs.declared.what.What.{What}
+use Rattle.case_texts.specs.declared.what.What.{What}
 use Rattle.emu_app.specs.declared.ending.Ending.{Ending}
 use Rattle.emu_app.specs.declared.ending.Ending.TheVariants as ending
-use Rattle.emu_app.specs.declared.refusal.Refusal.{Refusal}
-use Rattle.emu_app.specs.declared.refusal.Unread.{Unread}
-use Rattle.emu_app.specs.declared.refusal.Unread.TheVariants as unread
+use Rattle.case_texts.specs.declared.refusal.Refusal.{Refusal}
+use Rattle.case_texts.specs.declared.refusal.Unread.{Unread}
+use Rattle.case_texts.specs.declared.refusal.Unread.TheVariants as unread
 use Rattle.emu_app.specs.Answers.{CanAnswer, Comes, FoundMeans, HasTrace, HeldMeans, HeldTrace, TraceMeans, TraceOf, TraceStops, WorkMeans, WritesTrace}
 use Rattle.emu_app.specs.Command.{CommandWords}
 use Rattle.emu_app.specs.Endings.{ending_of}
-use Rattle.emu_app.specs.Fetching.{AreHeld, Texts}
+use Rattle.case_texts.specs.What.{Texts}
+use Rattle.emu_app.specs.Fetching.{AreHeld}
 use Rattle.emu_app.specs.Reading.{AllMean, Refuses}
 
 -- a trace that is written is one of what its meaning says
@@ -54,13 +55,13 @@ can_answer : (command : Command) (top : List ℕ) (texts : Texts) (found : Answe
 can_answer Check top texts found means = tt
 can_answer Settle top texts answer.Usage means = absurd means
 can_answer Settle top texts (answer.Accepted results) means = absurd means
-can_answer Settle top texts answer.Rejected means = absurd means
+can_answer Settle top texts (answer.Rejected rule at) means = absurd means
 can_answer Settle top texts (answer.TooLarge what) means = absurd means
 can_answer Settle top texts (answer.Refused why) means = tt
 can_answer Settle top texts (answer.ReadFault name) means = absurd means
 can_answer Replay top texts answer.Usage means = absurd means
 can_answer Replay top texts (answer.Accepted results) means = absurd means
-can_answer Replay top texts answer.Rejected means = tt
+can_answer Replay top texts (answer.Rejected rule at) means = tt
 can_answer Replay top texts (answer.TooLarge what) means = absurd means
 can_answer Replay top texts (answer.Refused why) means = tt
 can_answer Replay top texts (answer.ReadFault name) means = absurd means
@@ -98,7 +99,7 @@ module _ (told : Option Held) (before now : ℕ) (blamed : Option (List ℕ)) (n
   pub found_means : (found : Answer) → WorkMeans n.command n.top texts found → FoundMeans told before now blamed n found
   found_means answer.Usage means = no_usage n.command n.top texts means
   found_means (answer.Accepted results) means = (can_answer n.command n.top texts (answer.Accepted results) means, of_held told held (answer.Accepted results) means)
-  found_means answer.Rejected means = (can_answer n.command n.top texts answer.Rejected means, of_held told held answer.Rejected means)
+  found_means (answer.Rejected rule at) means = (can_answer n.command n.top texts (answer.Rejected rule at) means, of_held told held (answer.Rejected rule at) means)
   found_means (answer.TooLarge what) means = absurd (no_large n.command n.top texts what means)
   found_means (answer.Refused why) means = (can_answer n.command n.top texts (answer.Refused why) means, of_held told held (answer.Refused why) means)
   found_means (answer.ReadFault name) means = absurd (no_read_fault n.command n.top texts name means)

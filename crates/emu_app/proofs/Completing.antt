@@ -2,23 +2,27 @@
 use Rattle.std.proofs.Common.{ℕ, ◌≡◌, ◌<◌, ◌≤◌, inl, inr, List, [], ◌∷◌, length, Option, Some, None, IfSome, refl, sym, ◌∙◌, ap, subst, arith}
 use Rattle.emu_io.specs.Files.{Held}
 use Rattle.emu_io.specs.Faults.{Rose, max_count, risen}
+use Rattle.emu_machine.specs.declared.place.Place.{Place}
+use Rattle.emu_machine.specs.declared.rule.Rule.{Rule}
 use Rattle.emu_machine.specs.Acceptance.{Case, IsAccepted}
 use Rattle.emu_app.specs.declared.answer.Answer.{Answer}
 use Rattle.emu_app.specs.declared.answer.Answer.TheVariants as answer
 use Rattle.emu_app.specs.declared.command.Command.{Command}
 use Rattle.emu_app.specs.declared.command.Command.TheVariants.{Check, Settle, Replay}
-use Rattle.emu_app.specs.declared.refusal.Refusal.{Refusal}
+use Rattle.case_texts.specs.declared.refusal.Refusal.{Refusal}
 use Rattle.emu_app.specs.declared.status.Status.{Status}
 use Rattle.emu_app.specs.declared.status.Status.TheVariants as status
-use Rattle.emu_app.specs.declared.what.What.{What}
-use Rattle.emu_app.specs.declared.what.What.TheVariants.{Design, Cells, Groups, Board, Netlist, Schedule as ScheduleText, Map, Opening, Events}
-use Rattle.emu_app.specs.What.{limit, order}
+use Rattle.case_texts.specs.declared.what.What.{What}
+use Rattle.case_texts.specs.declared.what.What.TheVariants.{Design, Cells, Groups, Board, Netlist, Schedule as ScheduleText, Map, Opening, Events}
+use Rattle.case_texts.specs.What.{limit, order}
 use Rattle.emu_app.specs.Command.{CommandWords, IsCommand, Reads, command_word, name_of}
-use Rattle.emu_app.specs.Fetching.{Texts, AreHeld, IsHeld, FirstTooLarge, NotThere, FetchFailed}
-use Rattle.emu_app.specs.Forms.{SaysBoard, SaysGroups, SaysNetlist, SaysOpening, SaysShortSchedule}
+use Rattle.case_texts.specs.What.{Texts}
+use Rattle.emu_app.specs.Fetching.{AreHeld, IsHeld, FirstTooLarge, NotThere, FetchFailed}
+use Rattle.case_texts.specs.Cases.{DesignSays, StandFor}
+use Rattle.case_texts.specs.Forms.{SaysBoard, SaysGroups}
 use Rattle.emu_app.specs.Printing.{status_of}
-use Rattle.emu_app.specs.Reading.{AreRead, BoardSays, Refuses, RefusedTextsStandForNothing, ResultsSay, StandFor}
-use Rattle.emu_app.specs.Runs.{CanReplay, DesignSays, RecordingSays}
+use Rattle.emu_app.specs.Reading.{AreRead, Refuses, RefusedTextsStandForNothing}
+use Rattle.emu_app.specs.Runs.{CanReplay, RecordingSays, SaysOpening}
 use Rattle.emu_app.specs.declared.recording.Recording.{Recording}
 use Rattle.design_core.specs.declared.parts.Parts.{Parts}
 use Rattle.flattening.specs.Stands.{Stands}
@@ -26,7 +30,7 @@ use Rattle.domain_groups.specs.Events.{SaysEvents}
 use Rattle.domain_groups.specs.Groups.{InputGroups}
 use Rattle.emu_app.specs.Answers.{CommandMeans, Ends, HeldMeans, IsTraced, Prints, WorkMeans}
 use Rattle.emu_app.specs.Complete.{AreFine, Completes, IsFine, IsInOrder, NothingFailed}
-use Rattle.result_files.specs.PlainMap.{SaysMap}
+use Rattle.result_files.specs.ThreeTexts.{StandsFor}
 
 second_word : (a b c d : List ℕ) (xs ys : List (List ℕ)) → a ∷ b ∷ xs ≡ c ∷ d ∷ ys → b ≡ d
 second_word a b c d xs ys e = cc
@@ -80,8 +84,8 @@ same_texts held n a b what reads are-a are-b = one_text held (name_of n what) (a
 abbrev AreSame : Command → Texts → Texts → Type 0
 AreSame command a b = (what : What) → Reads command what → a what ≡ b what
 
-pub first_too : (command : Command) (top : List ℕ) (a b : Texts) (p : Parts) (v : InputGroups) → a Design ≡ b Design → a Cells ≡ b Cells → a Groups ≡ b Groups → DesignSays top a p v → DesignSays top b p v
-first_too command top a b p v design cells groups says =
+pub first_too : (top : List ℕ) (a b : Texts) (p : Parts) (v : InputGroups) → a Design ≡ b Design → a Cells ≡ b Cells → a Groups ≡ b Groups → DesignSays top a p v → DesignSays top b p v
+first_too top a b p v design cells groups says =
     record {
       design = subst (λ t. Stands t (b Cells) top p) design (subst (λ t. Stands (a Design) t top p) cells says.design);
       ranked = says.ranked;
@@ -92,31 +96,16 @@ first_too command top a b p v design cells groups says =
 module _ (top : List ℕ) (a b : Texts) (same : (what : What) → order what < 7 → a what ≡ b what) where
   case_too : (c : Case) → StandFor top a c → StandFor top b c
   case_too c s =
-      let board : BoardSays top a s.design s.chip = s.board_says in
-      let say : ResultsSay a s.results = s.results_say in
+      let results : StandsFor (b Netlist) (b ScheduleText) (b Map) c.results =
+      subst (λ t. StandsFor t (b ScheduleText) (b Map) c.results) (same Netlist (omega arith))
+      (subst (λ t. StandsFor (a Netlist) t (b Map) c.results) (same ScheduleText (omega arith))
+      (subst (λ t. StandsFor (a Netlist) (a ScheduleText) t c.results) (same Map (omega arith)) s.results)) in
       record {
-        design = s.design;
-        chip = s.chip;
-        results = s.results;
-        board_says = record {
-          plain = record {
-            groups = board.plain.groups;
-            first = first_too Check top a b s.design board.plain.groups (same Design (omega arith)) (same Cells (omega arith)) (same Groups (omega arith)) board.plain.first;
-            plain = board.plain.plain;
-            none = board.plain.none;
-          };
-          board = subst (λ t. SaysBoard t s.chip) (same Board (omega arith)) board.board;
-        };
-        results_say = record {
-          chip = say.chip;
-          schedule = say.schedule;
-          map = say.map;
-          says_netlist = subst (λ t. SaysNetlist t say.chip) (same Netlist (omega arith)) say.says_netlist;
-          says_schedule = subst (λ t. SaysShortSchedule t say.schedule) (same ScheduleText (omega arith)) say.says_schedule;
-          says_map = subst (λ t. SaysMap t say.chip say.map) (same Map (omega arith)) say.says_map;
-          is = say.is;
-        };
-        is = s.is;
+        groups = s.groups;
+        first = first_too top a b c.design s.groups (same Design (omega arith)) (same Cells (omega arith)) (same Groups (omega arith)) s.first;
+        grouped = s.grouped;
+        board = subst (λ t. SaysBoard t c.board) (same Board (omega arith)) s.board;
+        results = results;
       }
 
 -- and for the same recording
@@ -139,7 +128,7 @@ fine_too Settle top a b same fine =
       recording = fine.recording;
       stand = record {
         groups = fine.stand.groups;
-        first = first_too Settle top a b fine.design fine.stand.groups (same Design (omega arith)) (same Cells (omega arith)) (same Groups (omega arith)) fine.stand.first;
+        first = first_too top a b fine.design fine.stand.groups (same Design (omega arith)) (same Cells (omega arith)) (same Groups (omega arith)) fine.stand.first;
         recorded = recorded_too a b fine.design fine.recording (same Groups (omega arith)) (same Opening (omega arith)) (same Events (omega arith)) fine.stand.recorded;
       };
     }
@@ -153,11 +142,11 @@ fine_too Replay top a b same fine =
     }
 
 -- what the work came to on texts that are fine: neither a rejection nor a refusal
-fine_not_rejected : (command : Command) (top : List ℕ) (texts : Texts) → IsFine command top texts → WorkMeans command top texts answer.Rejected → ⊥
-fine_not_rejected Check top texts fine means =
+fine_not_rejected : (command : Command) (top : List ℕ) (texts : Texts) (rule : Rule) (at : Place) → IsFine command top texts → WorkMeans command top texts (answer.Rejected rule at) → ⊥
+fine_not_rejected Check top texts rule at fine means =
     means.rejected (subst IsAccepted (means.stand.one fine.judged fine.stand) fine.accepted)
-fine_not_rejected Settle top texts fine means = means
-fine_not_rejected Replay top texts fine means =
+fine_not_rejected Settle top texts rule at fine means = means
+fine_not_rejected Replay top texts rule at fine means =
     means.rejected (subst CanReplay (means.stand.stand.one fine.judged fine.stand) fine.fit)
 
 fine_is_read : (command : Command) (top : List ℕ) (texts : Texts) → IsFine command top texts → AreRead command top texts
@@ -174,8 +163,9 @@ fine_held : (held : Held) (n : CommandWords) (found : Answer) → (fine : AreFin
 fine_held held n found fine means =
     fine_too n.command n.top fine.texts means.texts (λ what reads. same_texts held n fine.texts means.texts what reads fine.are_held means.are_held) fine.fine
 
-not_rejected : (held : Held) (n : CommandWords) → AreFine n held → HeldMeans held n answer.Rejected → ⊥
-not_rejected held n fine means = fine_not_rejected n.command n.top means.texts (fine_held held n answer.Rejected fine means) means.means
+not_rejected : (held : Held) (n : CommandWords) (rule : Rule) (at : Place) → AreFine n held → HeldMeans held n (answer.Rejected rule at) → ⊥
+not_rejected held n rule at fine means =
+    fine_not_rejected n.command n.top means.texts rule at (fine_held held n (answer.Rejected rule at) fine means) means.means
 
 not_refused : RefusedTextsStandForNothing → (held : Held) (n : CommandWords) (why : Refusal) → AreFine n held → HeldMeans held n (answer.Refused why) → ⊥
 not_refused law held n why fine means =
@@ -208,9 +198,9 @@ module _ (law : RefusedTextsStandForNothing) (told : Option Held) (before now : 
   found_ok : (found : Answer) → CommandMeans told before now blamed words found → status_of found ≡ status.Ok
   found_ok answer.Usage means = absurd (means fair.names fair.shape)
   found_ok (answer.Accepted results) means = refl
-  found_ok answer.Rejected means =
+  found_ok (answer.Rejected rule at) means =
       let fine : AreFine means.names fair.held = fine_for means.names means.shape in
-      absurd (not_rejected fair.held means.names fine (subst (λ t. IfSome t (λ held. HeldMeans held means.names answer.Rejected)) fair.tells means.means.1))
+      absurd (not_rejected fair.held means.names rule at fine (subst (λ t. IfSome t (λ held. HeldMeans held means.names (answer.Rejected rule at))) fair.tells means.means.1))
   found_ok (answer.TooLarge what) means =
       let fine : AreFine means.names fair.held = fine_for means.names means.shape in
       absurd (not_large fair.held before now means.names what fine (subst (λ t. FirstTooLarge t before now means.names what) fair.tells means.means))

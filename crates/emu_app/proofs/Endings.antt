@@ -1,6 +1,8 @@
 -- What the end of a command says at the statuses Ok, Rejected and Usage.
 use Rattle.std.proofs.Common.{ℕ, ◌≡◌, ◌⊎◌, inl, inr, List, Option, Some, None, IfSome, Ok, Err, refl, subst}
 use Rattle.emu_io.specs.Files.{Held}
+use Rattle.emu_machine.specs.declared.place.Place.{Place}
+use Rattle.emu_machine.specs.declared.rule.Rule.{Rule}
 use Rattle.emu_machine.specs.Results.{Results}
 use Rattle.emu_app.specs.declared.answer.Answer.{Answer}
 use Rattle.emu_app.specs.declared.answer.Answer.TheVariants as answer
@@ -8,7 +10,8 @@ use Rattle.emu_app.specs.declared.status.Status.{Status}
 use Rattle.emu_app.specs.declared.status.Status.TheVariants as status
 use Rattle.emu_app.specs.declared.command.Command.{Command}
 use Rattle.emu_app.specs.declared.command.Command.TheVariants.{Check, Settle, Replay}
-use Rattle.emu_app.specs.Fetching.{AreHeld, Texts}
+use Rattle.case_texts.specs.What.{Texts}
+use Rattle.emu_app.specs.Fetching.{AreHeld}
 use Rattle.emu_app.specs.Command.{CommandWords, IsNoCommand}
 use Rattle.emu_app.specs.Printing.{status_of, text_of}
 use Rattle.emu_io.specs.declared.files.StoreFault.TheVariants as store
@@ -28,14 +31,15 @@ accepted_held : (told : Option Held) (n : CommandWords) (results : Results) (old
 accepted_held None n results old new means = tt
 accepted_held (Some held) n results old new means = accepted_work held n means.texts results old new n.command refl means.are_held means.means
 
-rejected_work : (held : Held) (n : CommandWords) (texts : Texts) (command : Command) → n.command ≡ command → AreHeld held n texts → WorkMeans command n.top texts answer.Rejected → RejectedHolds command n held
-rejected_work held n texts Check is are means = record { texts = texts; are_held = are; rejects = means }
-rejected_work held n texts Settle is are means = absurd means
-rejected_work held n texts Replay is are means = record { texts = texts; are_held = are; rejects = means }
+rejected_work : (held : Held) (n : CommandWords) (texts : Texts) (rule : Rule) (at : Place) (command : Command) → n.command ≡ command → AreHeld held n texts → WorkMeans command n.top texts (answer.Rejected rule at)
+    → RejectedHolds command n rule at held
+rejected_work held n texts rule at Check is are means = record { texts = texts; are_held = are; rejects = means }
+rejected_work held n texts rule at Settle is are means = absurd means
+rejected_work held n texts rule at Replay is are means = record { texts = texts; are_held = are; rejects = means }
 
-rejected_held : (told : Option Held) (n : CommandWords) → IfSome told (λ held. HeldMeans held n answer.Rejected) → IfSome told (RejectedHolds n.command n)
-rejected_held None n means = tt
-rejected_held (Some held) n means = rejected_work held n means.texts n.command refl means.are_held means.means
+rejected_held : (told : Option Held) (n : CommandWords) (rule : Rule) (at : Place) → IfSome told (λ held. HeldMeans held n (answer.Rejected rule at)) → IfSome told (RejectedHolds n.command n rule at)
+rejected_held None n rule at means = tt
+rejected_held (Some held) n rule at means = rejected_work held n means.texts rule at n.command refl means.are_held means.means
 
 -- a trace that is written is one that `settle` or `replay` means; `check` means none
 traced_work : (held : Held) (n : CommandWords) (old new : Option (List ℕ)) (command : Command) → n.command ≡ command → WritesTrace (HeldTrace held n) old new → OkHolds command n old new held
@@ -52,7 +56,7 @@ ok_found : (told : Option Held) (before now : ℕ) (blamed : Option (List ℕ)) 
 ok_found told before now blamed words old new answer.Usage means is = absurd (let e : status.Usage ≡ status.Ok = is in cc)
 ok_found told before now blamed words old new (answer.Accepted results) means is =
     record { names = means.names; shape = means.shape; held = accepted_held told means.names results old new means.means.1 }
-ok_found told before now blamed words old new answer.Rejected means is = absurd (let e : status.Rejected ≡ status.Ok = is in cc)
+ok_found told before now blamed words old new (answer.Rejected rule at) means is = absurd (let e : status.Rejected ≡ status.Ok = is in cc)
 ok_found told before now blamed words old new (answer.TooLarge what) means is = absurd (let e : status.Refused ≡ status.Ok = is in cc)
 ok_found told before now blamed words old new (answer.Refused what) means is = absurd (let e : status.Refused ≡ status.Ok = is in cc)
 ok_found told before now blamed words old new (answer.ReadFault name) means is = absurd (let e : status.ReadFault ≡ status.Ok = is in cc)
@@ -62,19 +66,20 @@ ok_traced : (told : Option Held) (words : List (List ℕ)) (old new : Option (Li
 ok_traced told words old new writes =
     record { names = writes.means.names; shape = writes.means.shape; held = traced_held told writes.means.names old new writes.trace writes.means.means writes.text }
 
-rejected_found : (told : Option Held) (before now : ℕ) (blamed : Option (List ℕ)) (words : List (List ℕ)) (found : Answer) → CommandMeans told before now blamed words found → status_of found ≡ status.Rejected → IsRejected told words
-rejected_found told before now blamed words answer.Usage means is = absurd (let e : status.Usage ≡ status.Rejected = is in cc)
-rejected_found told before now blamed words (answer.Accepted results) means is = absurd (let e : status.Ok ≡ status.Rejected = is in cc)
-rejected_found told before now blamed words answer.Rejected means is =
-    record { names = means.names; shape = means.shape; judges = means.means.0; held = rejected_held told means.names means.means.1 }
-rejected_found told before now blamed words (answer.TooLarge what) means is = absurd (let e : status.Refused ≡ status.Rejected = is in cc)
-rejected_found told before now blamed words (answer.Refused what) means is = absurd (let e : status.Refused ≡ status.Rejected = is in cc)
-rejected_found told before now blamed words (answer.ReadFault name) means is = absurd (let e : status.ReadFault ≡ status.Rejected = is in cc)
+rejected_found : (told : Option Held) (before now : ℕ) (blamed : Option (List ℕ)) (words : List (List ℕ)) (old new : Option (List ℕ)) (found : Answer)
+    → CommandMeans told before now blamed words found → status_of found ≡ status.Rejected → AppendsWhereTold old (text_of found) new → IsRejected told words old new
+rejected_found told before now blamed words old new answer.Usage means is text = absurd (let e : status.Usage ≡ status.Rejected = is in cc)
+rejected_found told before now blamed words old new (answer.Accepted results) means is text = absurd (let e : status.Ok ≡ status.Rejected = is in cc)
+rejected_found told before now blamed words old new (answer.Rejected rule at) means is text =
+    record { names = means.names; shape = means.shape; rule = rule; at = at; judges = means.means.0; held = rejected_held told means.names rule at means.means.1; printed = text }
+rejected_found told before now blamed words old new (answer.TooLarge what) means is text = absurd (let e : status.Refused ≡ status.Rejected = is in cc)
+rejected_found told before now blamed words old new (answer.Refused what) means is text = absurd (let e : status.Refused ≡ status.Rejected = is in cc)
+rejected_found told before now blamed words old new (answer.ReadFault name) means is text = absurd (let e : status.ReadFault ≡ status.Rejected = is in cc)
 
 usage_found : (told : Option Held) (before now : ℕ) (blamed : Option (List ℕ)) (words : List (List ℕ)) (found : Answer) → CommandMeans told before now blamed words found → status_of found ≡ status.Usage → IsNoCommand words
 usage_found told before now blamed words answer.Usage means is = means
 usage_found told before now blamed words (answer.Accepted results) means is = absurd (let e : status.Ok ≡ status.Usage = is in cc)
-usage_found told before now blamed words answer.Rejected means is = absurd (let e : status.Rejected ≡ status.Usage = is in cc)
+usage_found told before now blamed words (answer.Rejected rule at) means is = absurd (let e : status.Rejected ≡ status.Usage = is in cc)
 usage_found told before now blamed words (answer.TooLarge what) means is = absurd (let e : status.Refused ≡ status.Usage = is in cc)
 usage_found told before now blamed words (answer.Refused what) means is = absurd (let e : status.Refused ≡ status.Usage = is in cc)
 usage_found told before now blamed words (answer.ReadFault name) means is = absurd (let e : status.ReadFault ≡ status.Usage = is in cc)
@@ -90,10 +95,10 @@ module _ (told : Option Held) (before now : ℕ) (blamed : Option (List ℕ)) (w
       go (inl prints) = ok_found told before now blamed words old new prints.found prints.means prints.status_is
       go (inr writes) = ok_traced told words old new writes
 
-  pub ended_rejected : ended ≡ status.Rejected → IsRejected told words
+  pub ended_rejected : ended ≡ status.Rejected → IsRejected told words old new
   ended_rejected is =
       let prints : Prints (CommandMeans told before now blamed words) old new status.Rejected = subst at_status is ends in
-      rejected_found told before now blamed words prints.found prints.means prints.status_is
+      rejected_found told before now blamed words old new prints.found prints.means prints.status_is prints.text
 
   pub ended_usage : ended ≡ status.Usage → IsNoCommand words
   ended_usage is =
@@ -104,7 +109,7 @@ module _ (told : Option Held) (before now : ℕ) (blamed : Option (List ℕ)) (w
 no_fit : (found : Answer) → status_of found ≡ status.NoFit → ⊥
 no_fit answer.Usage is = let e : status.Usage ≡ status.NoFit = is in cc
 no_fit (answer.Accepted results) is = let e : status.Ok ≡ status.NoFit = is in cc
-no_fit answer.Rejected is = let e : status.Rejected ≡ status.NoFit = is in cc
+no_fit (answer.Rejected rule at) is = let e : status.Rejected ≡ status.NoFit = is in cc
 no_fit (answer.TooLarge what) is = let e : status.Refused ≡ status.NoFit = is in cc
 no_fit (answer.Refused what) is = let e : status.Refused ≡ status.NoFit = is in cc
 no_fit (answer.ReadFault name) is = let e : status.ReadFault ≡ status.NoFit = is in cc

@@ -6,11 +6,11 @@ use Rattle.std.proofs.lemmas.Option.{slice_get-get_or, slice_get_past}
 use Rattle.std.proofs.Math.ListN.{get_or-append}
 use Rattle.std.proofs.Math.Seq.{get_or-append_seam}
 use Rattle.emu_io.specs.Files.{Held}
-use Rattle.emu_app.specs.declared.what.What.{What}
-use Rattle.emu_app.specs.declared.what.What.TheVariants.{Design, Cells, Groups, Board, Netlist, Schedule, Map, Opening, Events}
+use Rattle.case_texts.specs.declared.what.What.{What}
+use Rattle.case_texts.specs.declared.what.What.TheVariants.{Design, Cells, Groups, Board, Netlist, Schedule, Map, Opening, Events}
 use Rattle.emu_app.specs.declared.command.Command.{Command}
 use Rattle.emu_app.specs.declared.command.Command.TheVariants.{Check, Settle, Replay}
-use Rattle.emu_app.specs.What.{limit}
+use Rattle.case_texts.specs.What.{limit}
 use Rattle.emu_app.specs.Command.{CommandWords, Reads, name_of, place_of, text_at, text_count}
 use Rattle.emu_io.specs.Faults.{Rose}
 use Rattle.emu_app.specs.declared.fetch.Stop.{Stop}

@@ -8,8 +8,7 @@ use Rattle.emu_machine.specs.declared.place.Place.TheVariants.{Chips, Gate, Weig
 use Rattle.emu_machine.specs.declared.schedule.Frame.{Frame as FrameOf}
 use Rattle.emu_machine.specs.declared.rule.Rule.{Rule}
 use Rattle.emu_machine.specs.declared.rule.Rule.TheVariants.{A1, A2, A3, A4, A5, A6, A7, A8, A9, A10, A11, A12}
-use Rattle.emu_machine.specs.Acceptance.{Case, Influences, Holds, IsAccepted, FailsA10, FailsA11, frame_differs, has_frame, sends_inside, fails_test}
-use Rattle.schedule_check.specs.Verdict.{FailsFirst}
+use Rattle.emu_machine.specs.Acceptance.{Case, Influences, Holds, IsAccepted, IsFirstFailure, FailsA10, FailsA11, frame_differs, has_frame, sends_inside, fails_test}
 
 -- functions that are the same at each place are the same
 same_function : {A B : Type 0} (f g : A → B) → ((x : A) → f x ≡ g x) → f ≡ g
@@ -96,6 +95,7 @@ module _ (c : Case) (one other : ℕ → NodeId → Bool) (of-one : Influences c
   moved A11 holds = λ at fails. holds at (moved_a11 at fails)
   moved A12 holds = holds
 
--- where a rule fails first, not all rules hold
-pub not_accepted : (c : Case) (rule : Rule) → FailsFirst c rule → IsAccepted c → ⊥
-not_accepted c rule first accepted = first.fails (moved c accepted.inside first.inside accepted.influences first.influences (accepted.rules A4) rule (accepted.rules rule))
+-- where there is a first failure, not all rules hold
+pub not_accepted : (c : Case) (rule : Rule) (at : Place) → IsFirstFailure c rule at → IsAccepted c → ⊥
+not_accepted c rule at first accepted =
+    moved c accepted.inside first.inside accepted.influences first.influences (accepted.rules A4) rule (accepted.rules rule) at first.here

@@ -1,30 +1,20 @@
--- That texts stand for one recording of a design at most, and what faults of a recording exclude.
-use Rattle.std.proofs.Common.{ℕ, ◌≡◌, ◌≢◌, List, [], ◌∷◌, map, ◌∙◌, refl, sym, ap, subst}
+-- That texts stand for one recording of a design at most.
+use Rattle.std.proofs.Common.{ℕ, ◌≡◌, List, [], ◌∷◌, map, ◌∙◌, refl, ap, subst}
 use Rattle.id_arena.specs.declared.keys.ElemId.{ElemId}
-use Rattle.id_arena.specs.declared.keys.MemId.{MemId}
-use Rattle.design_core.specs.declared.parts.Parts.{Parts}
 use Rattle.design_core.specs.declared.values.Event.{Event}
 use Rattle.design_core.specs.declared.values.PortBit.{PortBit}
 use Rattle.domain_groups.specs.Answers as groups
 use Rattle.domain_groups.specs.Events.{EachRecordingHasOneAnswer, SaysEvents}
-use Rattle.domain_groups.specs.Groups.{InputGroups}
-use Rattle.domain_groups.specs.Openings.{EachOpeningHasOneAnswer, PlainOpening, PlainWord}
+use Rattle.domain_groups.specs.Openings.{EachOpeningHasOneAnswer}
 use Rattle.flattening.specs.Laws.{EachTextHasOneDesign}
 use Rattle.event_replay.specs.Opened.{plain, plain_word_of}
 use Rattle.settled_model.specs.declared.opening.OpenWord.{OpenWord}
 use Rattle.settled_model.specs.declared.opening.Opening as opened
 use Rattle.emu_app.specs.declared.recording.Recording.{Recording}
-use Rattle.emu_app.specs.declared.refusal.EventsFault.{EventsFault}
-use Rattle.emu_app.specs.declared.refusal.GroupsFault.{GroupsFault}
-use Rattle.emu_app.specs.declared.refusal.OpeningsFault.{OpeningsFault}
-use Rattle.emu_app.specs.declared.command.Command.{Command}
-use Rattle.emu_app.specs.declared.command.Command.TheVariants.{Check, Settle, Replay}
-use Rattle.emu_app.specs.declared.what.What.TheVariants.{Design, Cells, Groups, Opening, Events}
-use Rattle.emu_app.specs.Fetching.{Texts}
-use Rattle.emu_app.specs.Forms.{SaysGroups, SaysOpening}
-use Rattle.emu_app.specs.Reading.{EventsAreFaulty, GroupsAreFaulty, HasSomeGroups, IsRead, OfDesign, OpeningIsFaulty, StandForSettle, TakesGroups, TextsTellRecordingsApart, TextsTellRunsApart}
+use Rattle.case_texts.specs.declared.what.What.TheVariants.{Design, Cells, Groups, Opening, Events}
+use Rattle.emu_app.specs.Reading.{TextsTellRecordingsApart, TextsTellRunsApart}
 use Rattle.emu_app.specs.Runs.{RecordingSays}
-use Rattle.emu_app.proofs.Readings.{no_events, no_groups, no_plain_opening, one_events, one_groups, one_plain_opening}
+use Rattle.case_texts.proofs.Readings.{one_events, one_groups, one_plain_opening}
 
 -- ## Openings by plain numbers
 
@@ -58,35 +48,6 @@ same_opening a b same =
     let words : a.words ≡ b.words = same_images plain_word_of same_word a.words b.words (ap (λ o. o.words) same) in
     let made : List PortBit → List ElemId → List OpenWord → opened.Opening = λ x y z. record { inputs = x; ones = y; words = z } in
     ap (λ x. made x a.ones a.words) inputs ∙ ap (λ y. made b.inputs y a.words) ones ∙ ap (λ z. made b.inputs b.ones z) words
-
--- ## What faults exclude
-
-module _ (apart : EachTextHasOneDesign) (grouped : groups.EachTextHasOneAnswer) (top : List ℕ) (texts : Texts) where
-  -- where the groups of the design that is told have a fault, those of no design are read
-  pub groups_unread : (command : Command) (fault : GroupsFault) → GroupsAreFaulty top texts fault → IsRead command top texts Groups → ⊥
-  groups_unread command fault faulty read =
-      let same : read.design ≡ faulty.design = apart (texts Design) (texts Cells) top read.design faulty.design read.says faulty.says in
-      no_groups grouped faulty.design (texts Groups) fault faulty.holds read.holds.0 (subst (λ p. SaysGroups p (texts Groups) read.holds.0) same read.holds.1)
-
-  -- where there are some, a command that judges reads none
-  pub some_unread : (command : Command) → ((v : InputGroups) → TakesGroups command v → v.groups ≡ []) → OfDesign top texts (HasSomeGroups texts) → IsRead command top texts Groups → ⊥
-  some_unread command judges some read =
-      let same : read.design ≡ some.design = apart (texts Design) (texts Cells) top read.design some.design read.says some.says in
-      let one : read.holds.0 ≡ some.holds.0 = one_groups grouped some.design (texts Groups) read.holds.0 some.holds.0 (subst (λ p. SaysGroups p (texts Groups) read.holds.0) same read.holds.1) some.holds.1 in
-      some.holds.2 (subst (λ v. v.groups ≡ []) one (judges read.holds.0 read.holds.2))
-
-  pub opening_unread : EachOpeningHasOneAnswer → (command : Command) (fault : OpeningsFault) → OpeningIsFaulty top texts fault → IsRead command top texts Opening → ⊥
-  opening_unread law command fault faulty read =
-      let same : read.design ≡ faulty.design = apart (texts Design) (texts Cells) top read.design faulty.design read.says faulty.says in
-      no_plain_opening law faulty.design (texts Opening) fault faulty.holds (plain read.holds.0) (subst (λ p. SaysOpening p (texts Opening) read.holds.0) same read.holds.1)
-
-  pub events_unread : EachRecordingHasOneAnswer → (command : Command) (fault : EventsFault) → EventsAreFaulty top texts fault → IsRead command top texts Events → ⊥
-  events_unread law command fault faulty read =
-      let p : Parts = faulty.design in
-      let same : read.design ≡ p = apart (texts Design) (texts Cells) top read.design p read.says faulty.says in
-      let one : read.holds.0 ≡ faulty.holds.0 = one_groups grouped p (texts Groups) read.holds.0 faulty.holds.0 (subst (λ q. SaysGroups q (texts Groups) read.holds.0) same read.holds.2) faulty.holds.1 in
-      no_events law faulty.holds.0 p (texts Events) fault faulty.holds.2 read.holds.1
-      (subst (λ v. SaysEvents v p.inputs (texts Events) read.holds.1) one (subst (λ (q : Parts). SaysEvents read.holds.0 q.inputs (texts Events) read.holds.1) same read.holds.3))
 
 -- ## One recording
 

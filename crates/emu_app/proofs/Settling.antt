@@ -1,5 +1,5 @@
 -- What `settle` prints: the trace of the one history, whole or as far as it came.
-use Rattle.std.proofs.Common.{ℕ, ◌≡◌, ◌<◌, arith, List, [], Bool, true, length, take, drop, map, Option, Ok, Err, inr, refl, sym, ap, subst}
+use Rattle.std.proofs.Common.{ℕ, ◌≡◌, List, Bool, length, take, drop, map, Option, Ok, Err, inr, refl, subst}
 use Rattle.std.proofs.Math.Seq.{take-length}
 use Rattle.design_core.specs.declared.parts.Parts.{Parts}
 use Rattle.design_core.specs.Dependency.{IsRanked}
@@ -19,9 +19,10 @@ use Rattle.trace_law.specs.Traces.{BrokenTraces, SettledTraceIsOne, SettledTrace
 use Rattle.emu_app.specs.declared.answer.Answer.{Answer}
 use Rattle.emu_app.specs.declared.recording.Recording.{Recording}
 use Rattle.emu_app.specs.Answers.{Comes, Settles, TraceStops, WritesTrace}
-use Rattle.emu_app.specs.Fetching.{Texts}
+use Rattle.case_texts.specs.What.{Texts}
 use Rattle.emu_app.specs.Reading.{StandForSettle, TextsTellRunsApart}
-use Rattle.emu_app.specs.Runs.{DesignSays, FitsDesign, IsHistoryTrace, NoAnswer, RecordingSays, opening_of}
+use Rattle.case_texts.specs.Cases.{DesignSays}
+use Rattle.emu_app.specs.Runs.{FitsDesign, IsHistoryTrace, NoAnswer, RecordingSays, opening_of}
 
 -- what is known once the original is opened
 pub record HasOpened (p : Parts) (r : Recording) (v : Valuation) : Type 0 where

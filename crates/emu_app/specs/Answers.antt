@@ -2,29 +2,38 @@
 -- The rules are told in docs/FORMATS.md, "Commands" and "Printed texts".
 use Rattle.std.specs.Prelude.{◌≡◌, ◌≤◌, ◌⊎◌, ℕ, List, length, take, Option, Result, Ok, Err, IfSome}
 use Rattle.design_core.specs.declared.parts.Parts.{Parts}
+use Rattle.domain_groups.specs.Groups.{InputGroups}
 use Rattle.emu_io.specs.declared.files.StoreFault.{StoreFault}
 use Rattle.emu_io.specs.declared.files.StoreFault.TheVariants as store
 use Rattle.emu_io.specs.Files.{Held}
 use Rattle.emu_io.specs.Faults.{Rose}
 use Rattle.emu_io.specs.Sink.{AppendsWhereTold}
 use Rattle.emu_machine.specs.Results.{Results}
-use Rattle.emu_machine.specs.Acceptance.{Case, IsAccepted}
+use Rattle.emu_machine.specs.declared.place.Place.{Place}
+use Rattle.emu_machine.specs.declared.rule.Rule.{Rule}
+use Rattle.emu_machine.specs.Acceptance.{Case, IsAccepted, IsFirstFailure}
 use Rattle.emu_machine.specs.Headline.{Headline}
+use Rattle.shape_check.specs.declared.verdict.Verdict.TheVariants.{Rejected}
+use Rattle.shape_check.specs.Verdict.{IsShapeVerdict}
 use Rattle.emu_app.specs.declared.answer.Answer.{Answer}
 use Rattle.emu_app.specs.declared.answer.Answer.TheVariants as answer
 use Rattle.emu_app.specs.declared.command.Command.{Command}
 use Rattle.emu_app.specs.declared.command.Command.TheVariants.{Check, Settle, Replay}
 use Rattle.emu_app.specs.declared.ending.Ending.{Ending}
 use Rattle.emu_app.specs.declared.ending.Ending.TheVariants as ending
+use Rattle.emu_app.specs.declared.reading.Planned.{Planned}
 use Rattle.emu_app.specs.declared.recording.Recording.{Recording}
-use Rattle.emu_app.specs.declared.what.What.{What}
+use Rattle.emu_app.specs.declared.replay.Replayed.{Replayed}
+use Rattle.case_texts.specs.declared.what.What.{What}
 use Rattle.emu_app.specs.declared.status.Status.{Status}
 use Rattle.emu_app.specs.declared.status.Status.TheVariants as status
 use Rattle.emu_app.specs.Command.{CommandWords, IsCommand, IsNoCommand, Reads, name_of}
-use Rattle.emu_app.specs.Fetching.{Texts, AreHeld, ReadFails, FirstTooLarge}
+use Rattle.case_texts.specs.What.{Texts}
+use Rattle.emu_app.specs.Fetching.{AreHeld, ReadFails, FirstTooLarge}
 use Rattle.emu_app.specs.Printing.{text_of, status_of}
-use Rattle.emu_app.specs.Reading.{StandForOne, StandForOneSettle, StandForOneReplay, Refuses}
-use Rattle.emu_app.specs.Runs.{IsHistoryTrace, IsMachineTrace, CanReplay}
+use Rattle.emu_app.specs.Reading.{StandForOneSettle, StandForOneReplay, Refuses, case_of}
+use Rattle.case_texts.specs.Cases.{StandForOne}
+use Rattle.emu_app.specs.Runs.{IsHistoryTrace, IsMachineTrace, IsRun, IsUnfit, CanReplay, NoAnswer}
 
 -- The texts stand for one case, and the rules A1 to A12 hold for it: then the machine agrees with the
 -- design after every event, for every opening and every list of events. The results are those of the case.
@@ -35,23 +44,27 @@ pub record Accepts (top : List ℕ) (texts : Texts) (results : Results) : Type 0
   pub headline : Headline judged
   pub shown : judged.results ≡ results
 
--- the texts stand for one case, and one of the rules A1 to A12 fails for it
-pub record Rejects (top : List ℕ) (texts : Texts) : Type 0 where
+-- The texts stand for one case, and this is its first failure: of the rules A1 to A12 the first that fails, with
+-- its least place. So the case is not accepted.
+pub record Rejects (top : List ℕ) (texts : Texts) (rule : Rule) (at : Place) : Type 0 where
   pub judged : Case
   pub stand : StandForOne top texts judged
+  pub first : IsFirstFailure judged rule at
   pub rejected : IsAccepted judged → ⊥
 
--- the texts stand for one case and recording, and one of the rules A1 to A9 fails for the case
-pub record RejectsReplay (top : List ℕ) (texts : Texts) : Type 0 where
+-- The texts stand for one case and recording, and of the rules A1 to A9 this is the first that fails for the case,
+-- with its least place. So a machine cannot run it.
+pub record RejectsReplay (top : List ℕ) (texts : Texts) (rule : Rule) (at : Place) : Type 0 where
   pub judged : Case
   pub recording : Recording
   pub stand : StandForOneReplay top texts judged recording
+  pub first : IsShapeVerdict judged (Rejected rule at)
   pub rejected : CanReplay judged → ⊥
 
 -- what judging the texts comes to; it is no matter of other answers
 abbrev pub JudgeMeans : List ℕ → Texts → Answer → Type 0
 JudgeMeans top texts (answer.Accepted results) = Accepts top texts results
-JudgeMeans top texts answer.Rejected = Rejects top texts
+JudgeMeans top texts (answer.Rejected rule at) = Rejects top texts rule at
 JudgeMeans top texts (answer.Refused why) = Refuses Check top texts why
 JudgeMeans top texts other = ⊥
 
@@ -62,7 +75,7 @@ SettleMeans top texts other = ⊥
 
 -- why the machine's trace is not begun
 abbrev pub ReplayMeans : List ℕ → Texts → Answer → Type 0
-ReplayMeans top texts answer.Rejected = RejectsReplay top texts
+ReplayMeans top texts (answer.Rejected rule at) = RejectsReplay top texts rule at
 ReplayMeans top texts (answer.Refused why) = Refuses Replay top texts why
 ReplayMeans top texts other = ⊥
 
@@ -97,7 +110,7 @@ TraceMeans Replay top texts trace = Replays top texts trace
 abbrev pub CanAnswer : Command → Answer → Type 0
 CanAnswer Check found = Unit {0}
 CanAnswer other (answer.Accepted results) = ⊥
-CanAnswer Settle answer.Rejected = ⊥
+CanAnswer Settle (answer.Rejected rule at) = ⊥
 CanAnswer other found = Unit {0}
 
 -- the commands that print a trace
@@ -206,3 +219,30 @@ SettleAndReplayAgree =
     (top : List ℕ) (texts others : Texts) (settled replayed : List ℕ) (run : Replays top texts replayed)
     → ((what : What) → Reads Settle what → texts what ≡ others what)
     → IsAccepted run.judged → Settles top others settled → replayed ≡ settled
+
+-- ## Inside the commands
+
+-- the answer is right for all texts that stand for this case alone
+abbrev pub JudgesAll : Case → Answer → Type 0
+JudgesAll judged found = (top : List ℕ) (texts : Texts) → StandForOne top texts judged → JudgeMeans top texts found
+
+-- by the end of `settle` on texts
+abbrev pub SettleEnds : List ℕ → Texts → Option (List ℕ) → Option (List ℕ) → ℕ → ℕ → Result Ending StoreFault → Type 0
+SettleEnds top texts old new before now ended =
+    Comes (SettleMeans top texts) (TraceMeans Settle top texts) old new before now ended
+
+-- by the end of `replay` on texts
+abbrev pub ReplayEnds : List ℕ → Texts → Option (List ℕ) → Option (List ℕ) → ℕ → ℕ → Result Ending StoreFault → Type 0
+ReplayEnds top texts old new before now ended =
+    Comes (ReplayMeans top texts) (TraceMeans Replay top texts) old new before now ended
+
+-- by the end of `replay` on what texts say: results that a machine cannot run are rejected, others have its trace
+abbrev pub RunEnds : Parts → InputGroups → Replayed → Option (List ℕ) → Option (List ℕ) → ℕ → ℕ → Result Ending StoreFault → Type 0
+RunEnds p v r old new before now ended =
+    Comes (IsUnfit (case_of p v r.plan)) (IsRun (case_of p v r.plan) r.recording) old new before now ended
+
+-- by the end of a run of results that a machine can run: it has come to the trace and to no answer
+abbrev pub TraceEnds : Parts → InputGroups → Planned → Recording
+    → Option (List ℕ) → Option (List ℕ) → ℕ → ℕ → Result Ending StoreFault → Type 0
+TraceEnds p v plan r old new before now ended =
+    Comes NoAnswer (IsMachineTrace (case_of p v plan) r) old new before now ended

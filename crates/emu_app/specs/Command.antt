@@ -4,9 +4,9 @@ use Rattle.std.specs.Prelude.{◌≡◌, ◌<◌, ℕ, ◌==◌, if◌then◌els
 use Rattle.emu_app.specs.declared.command.Command.{Command}
 use Rattle.emu_app.specs.declared.command.Command.TheVariants.{Check, Settle, Replay}
 use Rattle.emu_app.specs.declared.command.CommandNames.{CommandNames}
-use Rattle.emu_app.specs.declared.what.What.{What}
-use Rattle.emu_app.specs.declared.what.What.TheVariants.{Design, Cells, Groups, Board, Netlist, Schedule, Map, Opening, Events}
-use Rattle.emu_app.specs.What.{order}
+use Rattle.case_texts.specs.declared.what.What.{What}
+use Rattle.case_texts.specs.declared.what.What.TheVariants.{Design, Cells, Groups, Opening, Events}
+use Rattle.case_texts.specs.What.{order, what_at}
 
 -- the first word of a command
 abbrev pub command_word : Command → List ℕ
@@ -42,24 +42,7 @@ place_of other what = order what
 abbrev pub Reads : Command → What → Type 0
 Reads command what = place_of command what < text_count command
 
--- the commands that judge results
-abbrev pub Judges : Command → Type 0
-Judges Settle = ⊥
-Judges other = Unit {0}
-
--- the text at a place of the order of all, and of those that `settle` reads
-abbrev pub what_at : ℕ → What
-what_at place =
-    if place == 0 then Design
-    else if place == 1 then Cells
-    else if place == 2 then Groups
-    else if place == 3 then Board
-    else if place == 4 then Netlist
-    else if place == 5 then Schedule
-    else if place == 6 then Map
-    else if place == 7 then Opening
-    else Events
-
+-- the text at a place of those that `settle` reads
 abbrev pub settle_what_at : ℕ → What
 settle_what_at place =
     if place == 0 then Design

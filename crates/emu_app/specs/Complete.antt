@@ -9,10 +9,12 @@ use Rattle.emu_app.specs.declared.command.Command.TheVariants.{Check, Settle, Re
 use Rattle.emu_app.specs.declared.status.Status.{Status}
 use Rattle.emu_app.specs.declared.status.Status.TheVariants as status
 use Rattle.emu_app.specs.Command.{CommandWords, IsCommand}
-use Rattle.emu_app.specs.Fetching.{Texts, AreHeld}
+use Rattle.case_texts.specs.What.{Texts}
+use Rattle.emu_app.specs.Fetching.{AreHeld}
 use Rattle.emu_app.specs.declared.recording.Recording.{Recording}
 use Rattle.design_core.specs.declared.parts.Parts.{Parts}
-use Rattle.emu_app.specs.Reading.{StandFor, StandForSettle}
+use Rattle.case_texts.specs.Cases.{StandFor}
+use Rattle.emu_app.specs.Reading.{StandForSettle}
 use Rattle.emu_app.specs.Runs.{CanReplay, RecordingSays}
 
 -- no failure shows in a count: it did not rise, and it does not stand at its last value

@@ -12,8 +12,8 @@ use Rattle.emu_app.specs.declared.ending.Ending.{Ending}
 use Rattle.emu_app.specs.declared.ending.Ending.TheVariants as ending
 use Rattle.emu_app.specs.declared.fetch.Stop.{Stop}
 use Rattle.emu_app.specs.declared.fetch.Stop.TheVariants as stop
-use Rattle.emu_app.specs.declared.refusal.Unread.{Unread}
-use Rattle.emu_app.specs.declared.refusal.Unread.TheVariants as unread
+use Rattle.case_texts.specs.declared.refusal.Unread.{Unread}
+use Rattle.case_texts.specs.declared.refusal.Unread.TheVariants as unread
 use Rattle.emu_app.specs.declared.status.Status.{Status}
 use Rattle.emu_app.specs.declared.status.Status.TheVariants as status
 use Rattle.emu_app.specs.Command.{CommandWords, Reads, name_of}

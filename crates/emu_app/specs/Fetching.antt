@@ -3,10 +3,10 @@
 use Rattle.std.specs.Prelude.{◌≡◌, ◌<◌, ◌≤◌, ◌⊎◌, ℕ, List, [], length, slice_get, unwrap_or, Option, Some, None, Result, Ok, Err, IfSome, MatchOption}
 use Rattle.emu_io.specs.Files.{Held}
 use Rattle.emu_io.specs.Faults.{Rose, max_count}
-use Rattle.emu_app.specs.declared.what.What.{What}
+use Rattle.case_texts.specs.declared.what.What.{What}
 use Rattle.emu_app.specs.declared.fetch.Stop.{Stop}
 use Rattle.emu_app.specs.declared.fetch.Stop.TheVariants as stop
-use Rattle.emu_app.specs.What.{limit}
+use Rattle.case_texts.specs.What.{Texts, limit}
 use Rattle.emu_app.specs.declared.command.Command.{Command}
 use Rattle.emu_app.specs.Command.{CommandWords, Reads, name_of, place_of}
 
@@ -45,10 +45,6 @@ TextFails told before now blamed name what stop.NoMemory = Unit {0}
 abbrev pub TextMeans : {X : Type 0} → (X → List ℕ) → Option Held → ℕ → ℕ → Option (List ℕ) → List ℕ → What → Result X Stop → Type 0
 TextMeans view told before now blamed name what (Ok bytes) = IfSome told (λ held. IsHeld held name what (view bytes))
 TextMeans view told before now blamed name what (Err why) = TextFails told before now blamed name what why
-
--- the bytes of each text
-abbrev pub Texts : Type 0
-Texts = What → List ℕ
 
 -- each text is within its limit
 abbrev pub AreWithin : Texts → Type 0

@@ -1,16 +1,11 @@
 pub mod Status
-pub mod What
 pub mod Command
 pub mod Fetching
-pub mod Forms
-pub mod Faults
-pub mod Cycles
+pub mod Verdicts
 pub mod Printing
 pub mod Reading
 pub mod Runs
-pub mod PlainDesign
 pub mod Endings
 pub mod Answers
-pub mod Cases
 pub mod Outcomes
 pub mod Complete

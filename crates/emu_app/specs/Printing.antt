@@ -1,35 +1,14 @@
 -- The text that each answer prints, and its status.
 -- The rule is told in docs/FORMATS.md, "Printed texts".
-use Rattle.std.specs.Prelude.{ℕ, List, [], ◌∷◌, ◌++◌, Some, None, codes, decimal, length, flat_map}
-use Rattle.design_core.specs.declared.fault.LimitKind.{LimitKind}
-use Rattle.design_core.specs.declared.fault.LimitKind.TheVariants.{Nets, Elements, Inputs, Width, Depth, Instances, Words}
+use Rattle.std.specs.Prelude.{ℕ, List, ◌++◌, codes, decimal, length, flat_map}
 use Rattle.emu_machine.specs.declared.schedule.Frame.{Frame}
+use Rattle.case_texts.specs.What.{label}
+use Rattle.case_texts.specs.Words.{line, refusal_text}
 use Rattle.emu_app.specs.declared.answer.Answer.{Answer}
 use Rattle.emu_app.specs.declared.answer.Answer.TheVariants as answer
-use Rattle.emu_app.specs.declared.refusal.BoardsFault.{BoardsFault}
-use Rattle.emu_app.specs.declared.refusal.BoardsFault.TheVariants as board
-use Rattle.emu_app.specs.declared.refusal.CellsFault.{CellsFault}
-use Rattle.emu_app.specs.declared.refusal.CellsFault.TheVariants as cells
-use Rattle.emu_app.specs.declared.refusal.DesignsFault.{DesignsFault}
-use Rattle.emu_app.specs.declared.refusal.DesignsFault.TheVariants as design
-use Rattle.emu_app.specs.declared.refusal.EventsFault.{EventsFault}
-use Rattle.emu_app.specs.declared.refusal.EventsFault.TheVariants as events
-use Rattle.emu_app.specs.declared.refusal.GroupsFault.{GroupsFault}
-use Rattle.emu_app.specs.declared.refusal.GroupsFault.TheVariants as groups
-use Rattle.emu_app.specs.declared.refusal.OpeningsFault.{OpeningsFault}
-use Rattle.emu_app.specs.declared.refusal.OpeningsFault.TheVariants as opening
-use Rattle.emu_app.specs.declared.refusal.TextFault.{TextFault}
-use Rattle.emu_app.specs.declared.refusal.TextFault.TheVariants.{BadByte, OpenComment, OpenAttribute, BadNumber, UnknownDigit, Directive, Expected, Unsupported, TooDeep}
-use Rattle.emu_app.specs.declared.refusal.Fault.{Fault}
-use Rattle.emu_app.specs.declared.refusal.Refusal.{Refusal}
-use Rattle.emu_app.specs.declared.refusal.Refusal.TheVariants as refusal
 use Rattle.emu_app.specs.declared.status.Status.{Status}
 use Rattle.emu_app.specs.declared.status.Status.TheVariants as status
-use Rattle.emu_app.specs.What.{label}
-
--- bytes with a newline after them
-abbrev pub line : List ℕ → List ℕ
-line bytes = bytes ++ 10 ∷ []
+use Rattle.emu_app.specs.Verdicts.{rejected_text}
 
 -- `frame NAME LENGTH`
 abbrev pub frame_line : Frame → List ℕ
@@ -39,122 +18,20 @@ frame_line frame = line (codes "frame " ++ frame.group ++ codes " " ++ decimal (
 abbrev pub accepted_text : List Frame → List ℕ
 accepted_text frames = line (codes "accepted") ++ flat_map frame_line frames
 
--- the name of a fault, with a space after it
-abbrev pub fault_name : TextFault → List ℕ
-fault_name BadByte = codes "BadByte "
-fault_name OpenComment = codes "OpenComment "
-fault_name OpenAttribute = codes "OpenAttribute "
-fault_name BadNumber = codes "BadNumber "
-fault_name UnknownDigit = codes "UnknownDigit "
-fault_name Directive = codes "Directive "
-fault_name Expected = codes "Expected "
-fault_name Unsupported = codes "Unsupported "
-fault_name TooDeep = codes "TooDeep "
-
--- `refused design FAULT PLACE`
-abbrev pub fault_text_of : Fault → List ℕ
-fault_text_of fault = line (codes "refused design " ++ fault_name fault.kind ++ decimal fault.at)
-
--- a fault of cells, with the number of its cell
-abbrev pub cells_words : CellsFault → List ℕ
-cells_words cells.NotJson = codes "NotJson"
-cells_words cells.Version = codes "Version"
-cells_words (cells.BadShape None) = codes "BadShape"
-cells_words (cells.BadShape (Some cell)) = codes "BadShape " ++ decimal cell
-cells_words (cells.PinTwice cell) = codes "PinTwice " ++ decimal cell
-cells_words (cells.TableSize cell) = codes "TableSize " ++ decimal cell
-cells_words (cells.Limit cell) = codes "Limit " ++ decimal cell
-cells_words (cells.CellTwice cell) = codes "CellTwice " ++ decimal cell
-
--- the name of a quantity that has a limit, with a space after it
-abbrev pub limit_name : LimitKind → List ℕ
-limit_name Nets = codes "nets "
-limit_name Elements = codes "elements "
-limit_name Inputs = codes "inputs "
-limit_name Width = codes "width "
-limit_name Depth = codes "depth "
-limit_name Instances = codes "instances "
-limit_name Words = codes "words "
-
--- a fault of a design, with its byte; of a limit the quantity too; of drivers only the name of the net
-abbrev pub design_words : DesignsFault → List ℕ
-design_words design.NoTop = codes "NoTop"
-design_words (design.NameTwice at) = codes "NameTwice " ++ decimal at
-design_words (design.UnknownModule at) = codes "UnknownModule " ++ decimal at
-design_words (design.Recursive at) = codes "Recursive " ++ decimal at
-design_words (design.PortCount at) = codes "PortCount " ++ decimal at
-design_words (design.NoPort at) = codes "NoPort " ++ decimal at
-design_words (design.PortTwice at) = codes "PortTwice " ++ decimal at
-design_words (design.WidthDiffers at) = codes "WidthDiffers " ++ decimal at
-design_words (design.BadIndex at) = codes "BadIndex " ++ decimal at
-design_words (design.NotDeclared at) = codes "NotDeclared " ++ decimal at
-design_words (design.Limit which at) = codes "Limit " ++ limit_name which ++ decimal at
-design_words (design.TwoDrivers net name) = codes "TwoDrivers " ++ name
-design_words (design.Undriven net name) = codes "Undriven " ++ name
-
--- a fault of groups, with the number of its group
-abbrev pub groups_words : GroupsFault → List ℕ
-groups_words groups.NotJson = codes "NotJson"
-groups_words groups.BadShape = codes "BadShape"
-groups_words groups.Limit = codes "Limit"
-groups_words (groups.NameTaken group) = codes "NameTaken " ++ decimal group
-groups_words (groups.EmptyGroup group) = codes "EmptyGroup " ++ decimal group
-groups_words (groups.NoPort group) = codes "NoPort " ++ decimal group
-groups_words (groups.PortTwice group) = codes "PortTwice " ++ decimal group
-
--- a fault of a board, with the number of its wire
-abbrev pub board_words : BoardsFault → List ℕ
-board_words board.NotJson = codes "NotJson"
-board_words board.BadShape = codes "BadShape"
-board_words board.Version = codes "Version"
-board_words board.Limit = codes "Limit"
-board_words (board.BadWire wire) = codes "BadWire " ++ decimal wire.place
-
--- a fault of an opening, with the name of its port or the path of its element
-abbrev pub opening_words : OpeningsFault → List ℕ
-opening_words opening.NotJson = codes "NotJson"
-opening_words opening.BadShape = codes "BadShape"
-opening_words (opening.NoPort name) = codes "NoPort " ++ name
-opening_words (opening.BadValue name) = codes "BadValue " ++ name
-opening_words (opening.NoState path) = codes "NoState " ++ path
-opening_words (opening.NoWord path) = codes "NoWord " ++ path
-
--- a fault of events, with the number of its line
-abbrev pub events_words : EventsFault → List ℕ
-events_words (events.BadLine at) = codes "BadLine " ++ decimal at
-events_words (events.NoGroup at) = codes "NoGroup " ++ decimal at
-events_words (events.NoPort at) = codes "NoPort " ++ decimal at
-events_words (events.PortTwice at) = codes "PortTwice " ++ decimal at
-events_words (events.BadValue at) = codes "BadValue " ++ decimal at
-
--- `refused rank Cycle NAME ..`
-abbrev pub cycle_text : List (List ℕ) → List ℕ
-cycle_text names = line (codes "refused rank Cycle" ++ flat_map (λ name. codes " " ++ name) names)
-
--- the text of a refusal
-abbrev pub refusal_text : Refusal → List ℕ
-refusal_text (refusal.Faulty fault) = fault_text_of fault
-refusal_text (refusal.Cells fault) = line (codes "refused cells " ++ cells_words fault)
-refusal_text (refusal.Design fault) = line (codes "refused design " ++ design_words fault)
-refusal_text (refusal.Cycle names) = cycle_text names
-refusal_text (refusal.Groups fault) = line (codes "refused groups " ++ groups_words fault)
-refusal_text (refusal.Board fault) = line (codes "refused board " ++ board_words fault)
-refusal_text (refusal.Opening fault) = line (codes "refused opening " ++ opening_words fault)
-refusal_text (refusal.Events fault) = line (codes "refused events " ++ events_words fault)
-refusal_text (refusal.NotYet what) = line (codes "refused " ++ label what ++ codes " NotYet")
-
+-- what the command prints
 abbrev pub text_of : Answer → List ℕ
 text_of answer.Usage = line (codes "usage: emu check|compile|make|replay|settle")
 text_of (answer.Accepted results) = accepted_text results.schedule.frames
-text_of answer.Rejected = line (codes "rejected")
+text_of (answer.Rejected rule at) = rejected_text rule at
 text_of (answer.TooLarge what) = line (codes "refused " ++ label what ++ codes " TooLarge")
 text_of (answer.Refused why) = refusal_text why
 text_of (answer.ReadFault name) = line (codes "read fault " ++ name)
 
+-- how the command ends, where its text is written
 abbrev pub status_of : Answer → Status
 status_of answer.Usage = status.Usage
 status_of (answer.Accepted results) = status.Ok
-status_of answer.Rejected = status.Rejected
+status_of (answer.Rejected rule at) = status.Rejected
 status_of (answer.TooLarge what) = status.Refused
 status_of (answer.Refused why) = status.Refused
 status_of (answer.ReadFault name) = status.ReadFault

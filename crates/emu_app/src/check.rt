@@ -1,27 +1,21 @@
 //! The command `check`: judges results.
 
-ghost use Rattle.std.specs.Prelude.{◌<◌, ◌≡◌, IfOk, length};
-ghost use Rattle.design_core.specs.Dependency.{IsRanked};
-ghost use Rattle.design_core.specs.Plain.{IsPlain};
-ghost use Rattle.emu_machine.specs.Plain.{IsPlainResults};
-ghost use Rattle.emu_app.specs.Answers.{JudgeMeans};
-ghost use Rattle.emu_app.specs.Cases.{JudgesAll};
+ghost use Rattle.std.specs.Prelude.{◌≡◌, IfOk, length};
+ghost use Rattle.domain_groups.specs.Groups.{AreOf};
+ghost use Rattle.emu_app.specs.Answers.{JudgeMeans, JudgesAll};
 ghost use Rattle.emu_app.specs.Command.{text_count};
 ghost use Rattle.emu_app.specs.Fetching.{AreWithin, texts_of};
-ghost use Rattle.emu_app.specs.Forms.{SaysDesign};
-ghost use Rattle.emu_app.specs.Reading.{AllMean, BoardSays};
+ghost use Rattle.emu_app.specs.Reading.{AllMean, case_of};
 
 use crate::answer::Answer;
 use crate::command::Command;
-use crate::laws::texts_tell_cases_apart;
-use crate::plan_texts::OneChip;
-use crate::reading::{read_board_text, read_first, read_plain_order, read_results};
-use crate::refusal::Unread;
+use crate::reading::{Planned, read_first, read_order, read_plan};
 use accepted_law::acceptance::accepted_agrees;
-use design_core::Design;
+use case_texts::{Unread, texts_tell_cases_apart};
+use clock_rank::Ranked;
+use domain_groups::Groups;
 use emu_io::{List, NoMemory, Text};
-use emu_machine::Results;
-use schedule_check::{Verdict, judge};
+use shape_check::{Verdict, judge};
 use std::alloc::Global;
 
 /// Reads the texts and judges the case that they stand for.
@@ -45,45 +39,31 @@ fn judge_read(alloc: Global, top: &[u8], texts: &List<Text>) -> Result<Answer, U
 {
     texts_tell_cases_apart();
     let design = read_first(alloc, Command::Check, top, texts)?;
-    let chip = read_board_texts(alloc, top, texts, &design)?;
-    let results = read_results(alloc, Command::Check, top, texts, &design, chip)?;
-    let found = judge_case(alloc, &design, chip, results)?;
+    let (ranked, groups) = read_order(alloc, Command::Check, top, texts, &design)?;
+    let plan = read_plan(alloc, Command::Check, top, texts)?;
+    let found = judge_case(alloc, &ranked, &groups, plan)?;
     Ok(found)
-}
-
-/// The board, where the design has an order and is plain, and there are no groups; neither is kept.
-fn read_board_texts(
-    alloc: Global,
-    top: &[u8],
-    texts: &List<Text>,
-    design: &Design,
-) -> Result<OneChip, Unread>
-    requires count { length texts.now ≡ text_count Command.Check }
-    requires before { SaysDesign top.now (texts_of Command.Check texts.now) design.now }
-    ensures means { AllMean Command.Check top.now (texts_of Command.Check texts.now) (BoardSays top.now (texts_of Command.Check texts.now) design.now) result }
-    ensures some { IfOk result (λ chip. 0 < chip.slots) }
-{
-    let _read = read_plain_order(alloc, Command::Check, top, texts, design)?;
-    read_board_text(alloc, Command::Check, top, texts, design)
 }
 
 /// The verdict on a case.
 fn judge_case(
     alloc: Global,
-    design: &Design,
-    chip: OneChip,
-    results: Results,
+    ranked: &Ranked<'_>,
+    groups: &Groups,
+    plan: Planned,
 ) -> Result<Answer, NoMemory>
-    requires plain { IsPlain design.now }
-    requires ranked { IsRanked design.now }
-    requires results { IsPlainResults results }
-    ensures { IfOk result (JudgesAll design.now chip results) }
+    requires { AreOf ranked.now.design groups.now }
+    ensures { IfOk result (JudgesAll (case_of ranked.now.design groups.now plan)) }
 {
     accepted_agrees();
-    design.stands();
-    results.stand();
-    match judge(alloc, design, chip.room, chip.slots, &results)? {
-        Verdict::Accepted => Ok(Answer::Accepted { results }),
-        Verdict::Rejected { .. } => Ok(Answer::Rejected),
+    ranked.design().stands();
+    ranked.stands();
+    groups.stands();
+    plan.results.stand();
+    match judge(alloc, ranked, groups, &plan.board, &plan.results)? {
+        Verdict::Accepted => Ok(Answer::Accepted {
+            results: plan.results,
+        }),
+        Verdict::Rejected { rule, place } => Ok(Answer::Rejected { rule, place }),
     }
 }

@@ -1,10 +1,10 @@
 //! The words of a command.
 
 ghost use Rattle.std.specs.Prelude.{◌<◌, ◌≡◌, List, ℕ, MatchOption, length};
-ghost use Rattle.emu_app.specs.Command.{IsCommand, IsNamed, IsNoCommand, Reads, name_of, place_of, text_at, text_count, words_of};
+ghost use Rattle.emu_app.specs.Command.{IsCommand, IsNamed, IsNoCommand, Reads, name_of, place_of, settle_place, settle_what_at, text_at, text_count, words_of};
 ghost use Rattle.emu_app.specs.declared.command.Command.{Command};
 
-use crate::what::What;
+use case_texts::What;
 use emu_io::Word;
 
 /// A command over texts.
@@ -50,7 +50,7 @@ impl Command {
         ensures { result ≡ place_of self what }
     {
         match self {
-            Command::Settle => what.settle_place(),
+            Command::Settle => settle_place(what),
             Command::Check | Command::Replay => what.order(),
         }
     }
@@ -60,9 +60,36 @@ impl Command {
         ensures { result ≡ text_at self place }
     {
         match self {
-            Command::Settle => What::settle_at(place),
+            Command::Settle => settle_what_at(place),
             Command::Check | Command::Replay => What::at(place),
         }
+    }
+}
+
+/// The text at a place of those that `settle` reads.
+fn settle_what_at(place: u32) -> What
+    ensures { result ≡ settle_what_at place }
+{
+    match place {
+        0 => What::Design,
+        1 => What::Cells,
+        2 => What::Groups,
+        3 => What::Opening,
+        _ => What::Events,
+    }
+}
+
+/// The place of a text among those that `settle` reads; beyond them for one that it does not read.
+fn settle_place(what: What) -> u64
+    ensures { result ≡ settle_place what }
+{
+    match what {
+        What::Design => 0,
+        What::Cells => 1,
+        What::Groups => 2,
+        What::Opening => 3,
+        What::Events => 4,
+        What::Board | What::Netlist | What::Schedule | What::Map => 5,
     }
 }
 

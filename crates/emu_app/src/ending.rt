@@ -4,7 +4,7 @@ ghost use Rattle.std.specs.Prelude.{◌≡◌};
 ghost use Rattle.emu_app.specs.Endings.{ending_of};
 
 use crate::answer::Answer;
-use crate::refusal::Unread;
+use case_texts::Unread;
 use emu_io::StoreFault;
 
 /// How the work of a command ends where no put failed and memory was there.

@@ -1,12 +1,12 @@
 //! Fetching the texts of a command.
 
 ghost use Rattle.std.specs.Prelude.{◌≡◌, ◌≤◌, IfOk, length};
-ghost use Rattle.emu_app.specs.What.{limit};
+ghost use Rattle.case_texts.specs.What.{limit};
 ghost use Rattle.emu_app.specs.Command.{text_count, words_of};
 ghost use Rattle.emu_app.specs.Fetching.{AreWithin, TextMeans, TextsMean, texts_of};
 
 use crate::command::CommandNames;
-use crate::what::What;
+use case_texts::What;
 use emu_io::{FetchFault, Files, List, NoMemory, Text, Word};
 use std::alloc::Global;
 

@@ -1,21 +1,10 @@
 //! Laws of texts. There is nothing to run.
 
 ghost use Rattle.emu_app.specs.Answers.{SettleAndReplayAgree};
-ghost use Rattle.emu_app.specs.Reading.{RefusedTextsStandForNothing, TextsTellCasesApart, TextsTellRecordingsApart, TextsTellRunsApart};
+ghost use Rattle.emu_app.specs.Reading.{RefusedTextsStandForNothing, TextsTellRecordingsApart, TextsTellRunsApart};
 
-use flattening::laws::{each_text_has_one_design, each_tree_has_one_answer};
-
-/// Texts stand for one case at most.
-pub fn texts_tell_cases_apart()
-    ensures { TextsTellCasesApart }
-{
-    verilog_lex::each_text_has_one_answer();
-    each_text_has_one_design();
-    board_model::each_text_has_one_answer();
-    result_files::plain_netlists_are_told_apart();
-    result_files::plain_schedules_are_told_apart();
-    result_files::plain_maps_are_told_apart();
-}
+use case_texts::faulty_texts_are_unread;
+use flattening::laws::each_text_has_one_design;
 
 /// Texts stand for one recording of a design at most.
 pub fn texts_tell_recordings_apart()
@@ -38,12 +27,7 @@ pub fn texts_tell_runs_apart()
 pub fn refused_texts_stand_for_nothing()
     ensures { RefusedTextsStandForNothing }
 {
-    verilog_lex::each_text_has_one_answer();
-    verilog_tree::has_one_tree();
-    cell_table::each_text_has_one_answer();
-    each_text_has_one_design();
-    each_tree_has_one_answer();
-    clock_rank::cycles_are_unranked();
+    faulty_texts_are_unread();
 }
 
 /// Where the twelve rules hold, `settle` and `replay` print one trace.

@@ -9,30 +9,23 @@
 #![tactic(auto)]
 
 mod answer;
-mod cells_text;
 mod check;
 mod command;
 mod design_text;
 mod ending;
 mod fetch;
-mod groups_text;
 mod laws;
-mod plain_design;
-mod plan_texts;
-mod ranking;
 mod reading;
 mod recording;
-mod refusal;
 mod replay;
-mod result_texts;
 mod settle;
 mod status;
 mod top;
-mod what;
+mod verdict_text;
 
 pub use laws::{
-    refused_texts_stand_for_nothing, settle_and_replay_agree, texts_tell_cases_apart,
-    texts_tell_recordings_apart, texts_tell_runs_apart,
+    refused_texts_stand_for_nothing, settle_and_replay_agree, texts_tell_recordings_apart,
+    texts_tell_runs_apart,
 };
 pub use status::Status;
 pub use top::run;

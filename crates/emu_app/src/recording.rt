@@ -4,10 +4,10 @@ ghost use Rattle.std.specs.Prelude.{◌≡◌, IfOk, Contains};
 ghost use Rattle.design_core.specs.declared.values.Event.{Event};
 ghost use Rattle.settled_model.specs.Opening.{Opens};
 ghost use Rattle.event_replay.specs.Settings.{AreInputBits};
-ghost use Rattle.emu_app.specs.Faults.{events_refusal, opening_refusal};
+ghost use Rattle.case_texts.specs.Faults.{events_refusal, opening_refusal};
 ghost use Rattle.emu_app.specs.Reading.{EventsMean, OpeningMeans};
 
-use crate::refusal::{EventsFault, OpeningsFault, Refusal, Unread};
+use case_texts::{EventsFault, OpeningsFault, Refusal, Unread};
 use design_core::Design;
 use domain_groups::{EventFault, Events, Groups, OpeningFault};
 use event_replay::{read_events, read_opening};

@@ -1,11 +1,12 @@
 //! The command `settle`: runs recorded events on the original.
 
 ghost use Rattle.std.specs.Prelude.{◌≡◌, ◌<◌, length};
-ghost use Rattle.emu_app.specs.Answers.{Comes, SettleMeans, TraceMeans};
+ghost use Rattle.emu_app.specs.Answers.{Comes, SettleEnds};
 ghost use Rattle.emu_app.specs.Command.{text_count};
 ghost use Rattle.emu_app.specs.Fetching.{AreWithin, texts_of};
-ghost use Rattle.emu_app.specs.Forms.{SaysDesign};
-ghost use Rattle.emu_app.specs.Runs.{DesignSays, FitsDesign, IsHistoryTrace, NoAnswer};
+ghost use Rattle.case_texts.specs.Forms.{SaysDesign};
+ghost use Rattle.case_texts.specs.Cases.{DesignSays};
+ghost use Rattle.emu_app.specs.Runs.{FitsDesign, IsHistoryTrace, NoAnswer};
 
 use crate::command::Command;
 use crate::ending::{Ending, ending_of};
@@ -29,7 +30,7 @@ pub fn settle_texts<O: Sink>(
 ) -> Result<Ending, StoreFault>
     requires count { length texts.now ≡ text_count Command.Settle }
     requires within { AreWithin (texts_of Command.Settle texts.now) }
-    ensures { Comes (SettleMeans top.now (texts_of Command.Settle texts.now)) (TraceMeans Command.Settle top.now (texts_of Command.Settle texts.now)) (O.written out.old) (O.written out.new) (O.faults out.old) (O.faults out.new) result }
+    ensures { SettleEnds top.now (texts_of Command.Settle texts.now) (O.written out.old) (O.written out.new) (O.faults out.old) (O.faults out.new) result }
 {
     match read_first(alloc, Command::Settle, top, texts) {
         Ok(design) => settle_design(alloc, top, texts, &design, out),
@@ -47,9 +48,9 @@ fn settle_design<O: Sink>(
 ) -> Result<Ending, StoreFault>
     requires count { length texts.now ≡ text_count Command.Settle }
     requires says { SaysDesign top.now (texts_of Command.Settle texts.now) design.now }
-    ensures { Comes (SettleMeans top.now (texts_of Command.Settle texts.now)) (TraceMeans Command.Settle top.now (texts_of Command.Settle texts.now)) (O.written out.old) (O.written out.new) (O.faults out.old) (O.faults out.new) result }
+    ensures { SettleEnds top.now (texts_of Command.Settle texts.now) (O.written out.old) (O.written out.new) (O.faults out.old) (O.faults out.new) result }
 {
-    match read_order(alloc, top, texts, design) {
+    match read_order(alloc, Command::Settle, top, texts, design) {
         Ok((ranked, groups)) => settle_ranked(alloc, top, texts, &ranked, &groups, out),
         Err(why) => ending_of(why),
     }
@@ -66,7 +67,7 @@ fn settle_ranked<O: Sink>(
 ) -> Result<Ending, StoreFault>
     requires count { length texts.now ≡ text_count Command.Settle }
     requires says { DesignSays top.now (texts_of Command.Settle texts.now) ranked.now.design groups.now }
-    ensures { Comes (SettleMeans top.now (texts_of Command.Settle texts.now)) (TraceMeans Command.Settle top.now (texts_of Command.Settle texts.now)) (O.written out.old) (O.written out.new) (O.faults out.old) (O.faults out.new) result }
+    ensures { SettleEnds top.now (texts_of Command.Settle texts.now) (O.written out.old) (O.written out.new) (O.faults out.old) (O.faults out.new) result }
 {
     texts_tell_runs_apart();
     match read_recording(alloc, Command::Settle, top, texts, ranked.design(), groups) {

@@ -17,7 +17,7 @@ use crate::laws::refused_texts_stand_for_nothing;
 use crate::replay::replay_texts;
 use crate::settle::settle_texts;
 use crate::status::Status;
-use crate::what::What;
+use case_texts::What;
 use emu_io::{Files, List, NoMemory, Sink, StoreFault, Text, Word};
 use std::alloc::Global;
 
@@ -152,8 +152,9 @@ pub fn run<F: Files, O: Sink>(alloc: Global, words: &[Word], files: &mut F, out:
     // Of `settle`: the trace of the one history is written. Of `replay`: the trace of the machine is written,
     // which is that of the history where the twelve rules hold.
     ensures accepted { result ≡ Status.Ok → IsOk (F.held files.old) words.now (O.written out.old) (O.written out.new) }
-    // Status Rejected: a rule of acceptance fails for the texts that are held, for `replay` one of A1 to A9.
-    ensures rejected { result ≡ Status.Rejected → IsRejected (F.held files.old) words.now }
+    // Status Rejected: a rule of acceptance fails for the texts that are held, for `replay` one of A1 to A9;
+    // the first that fails is printed, with its least place.
+    ensures rejected { result ≡ Status.Rejected → IsRejected (F.held files.old) words.now (O.written out.old) (O.written out.new) }
     // Status Usage: the words are those of no command.
     ensures usage { result ≡ Status.Usage → IsNoCommand words.now }
 

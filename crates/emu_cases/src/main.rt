@@ -3,8 +3,7 @@
 //! The table is the file that the program's argument names. A line that begins with `#` says why the
 //! commands below it are there, and is passed over, as an empty line is. Each other line is printed after
 //! `> `, then what the command prints, then its status. The stored output has for each command all that
-//! it should print, to the last byte, and how it should end. Where a text is not of the form that is
-//! read so far, that is `NotYet`, which the rules do not know. It is a test, and has no contract.
+//! it should print, to the last byte, and how it should end. It is a test, and has no contract.
 //!
 //! Before a command may stand what is not as usual, and a colon. `fetch K fails` and `put K fails` count
 //! from 0; `spaces N NAME` makes a text of so many spaces; `cut NAME` runs the command with each proper

@@ -4,8 +4,9 @@
 //! Empty lines, and those that begin with `#`, are passed over. Each other line is printed after `> `, then
 //! what the call answers. `influence TOP DESIGN CELLS GROUPS` prints for each frame the nets and write nodes
 //! that its group reaches, `tree BOARD` the parent and the distance of each chip from each root, `seed TOP
-//! DESIGN CELLS BOARD` the chip of each element, and `schedule` and `map` a text as it is printed again. It
-//! is a test, and has no contract.
+//! DESIGN CELLS BOARD` the chip of each element. `results NETLIST SCHEDULE MAP` prints the three texts of the
+//! results that were read from these, or their first fault, and `prefixes NETLIST SCHEDULE MAP` to how many
+//! bytes each of the three can be cut while they stand for results. It is a test, and has no contract.
 #![tactic(auto)]
 
 mod designs;
@@ -16,7 +17,7 @@ mod results;
 use crate::designs::put_influence;
 use crate::fault::Fault;
 use crate::plans::{put_seed, put_trees};
-use crate::results::{put_map, put_schedule};
+use crate::results::{put_prefixes, put_results};
 use emu_io::{Files, HostFiles, HostSink, List, NoMemory, Sink, Text, Word};
 use std::alloc::Global;
 use std::process::ExitCode;
@@ -26,7 +27,7 @@ use std::rt::Env;
 const LONGEST_NAME: usize = 4_096;
 
 /// More bytes than a text has.
-const LONGEST_TEXT: u64 = 1_048_576;
+const LONGEST_TEXT: u64 = 67_108_864;
 
 fn main(rt: HostRuntime) -> ExitCode {
     match run_table(rt, rt.alloc()) {
@@ -79,8 +80,8 @@ enum Call {
     Influence,
     Tree,
     Seed,
-    Schedule,
-    Map,
+    Results,
+    Prefixes,
 }
 
 /// The calls by their words.
@@ -88,8 +89,8 @@ static CALLS: [(&[u8], Call); 5] = [
     (b"influence", Call::Influence),
     (b"tree", Call::Tree),
     (b"seed", Call::Seed),
-    (b"schedule", Call::Schedule),
-    (b"map", Call::Map),
+    (b"results", Call::Results),
+    (b"prefixes", Call::Prefixes),
 ];
 
 /// The call that a word names.
@@ -113,8 +114,8 @@ fn put_answer(
         Call::Influence => put_influence(alloc, out, texts),
         Call::Tree => put_trees(alloc, out, texts),
         Call::Seed => put_seed(alloc, out, texts),
-        Call::Schedule => put_schedule(alloc, out, texts),
-        Call::Map => put_map(alloc, out, texts),
+        Call::Results => put_results(alloc, out, texts),
+        Call::Prefixes => put_prefixes(alloc, out, texts),
     }
 }
 

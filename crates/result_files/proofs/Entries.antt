@@ -9,6 +9,14 @@ use Rattle.std.proofs.lemmas.List.{map-append, take_more, take-map}
 use Rattle.std.proofs.lemmas.Option.{same_Some, slice_get-map, slice_get_read}
 use Rattle.serde_json.specs.Data.{Data}
 use Rattle.result_files.specs.Lists.{SayEach, FirstBad}
+use Rattle.result_files.specs.Printed.{AreAll}
+
+-- one item more at the end
+pub all_more : {A : Type 0} (Is : A → Type 0) (items : List A) (item : A) → AreAll Is items → Is item → AreAll Is (items ++ item ∷ [])
+all_more Is [] item before here zero x at = subst Is (same_Some item x at) here
+all_more Is [] item before here (suc k) x at = cc
+all_more Is (y ∷ ys) item before here zero x at = before zero x at
+all_more Is (y ∷ ys) item before here (suc k) x at = all_more Is ys item (λ j. before (suc j)) here k x at
 
 -- one entry more at the end
 pub say_more : {X A : Type 0} (Says : X → A → Type 0) (trees : List X) (values : List A) (tree : X) (value : A) → SayEach Says trees values → Says tree value → SayEach Says (trees ++ tree ∷ []) (values ++ value ∷ [])

@@ -1,5 +1,5 @@
 //! The schedules of all five actions.
-ghost use Rattle.std.specs.Prelude.{◌≡◌, ◌≢◌, ◌≤◌, ℕ, IfSome, List, codes, length, map, MatchOption};
+ghost use Rattle.std.specs.Prelude.{◌≡◌, ◌≢◌, ◌≤◌, ℕ, IfOk, IfSome, IsUtf8, List, codes, length, map, MatchOption};
 ghost use Rattle.serde_json.specs.Data.{Data, string};
 ghost use Rattle.serde_json.specs.View.{view};
 ghost use Rattle.emu_machine.specs.declared.schedule.Action.{Action};
@@ -7,6 +7,7 @@ ghost use Rattle.result_files.specs.Lists.{SayEach};
 ghost use Rattle.result_files.specs.Trees.{list, Finds, AreFew, HasMember};
 ghost use Rattle.result_files.specs.Rows.{numbers_of};
 ghost use Rattle.result_files.specs.Schedule.{action_row, IsActionTree, IsSlotTree, IsFrameTree, IsFrameOf, HasFrames, IsScheduleTree, IsBadSchedule, ScheduleAnswers, SchedulesAreToldApart};
+ghost use Rattle.result_files.specs.Printed.{IsNamed, AreAll, AreNamed};
 ghost use Rattle.result_files.specs.Readers.{Places, BadSlotAt, BadSlots, BadFrameAt, BadFrames};
 
 use crate::fault::FormFault;
@@ -23,9 +24,11 @@ use std::alloc::Global;
 
 /// The schedule that a text stands for, as
 /// `{"frames":[{"group":"*","slots":[[["input",0,0,2]]]}],"version":1}`. Other members are passed over,
-/// and of members named twice the last counts. A refusal names the first fault.
+/// and of members named twice the last counts. A refusal names the first fault. The names of the groups
+/// are UTF-8, so that the schedule can be printed.
 pub fn read_schedule(alloc: Global, bytes: &[u8]) -> Result<Schedule, ResultFault>
-    ensures { ScheduleAnswers bytes.now result }
+    ensures says { ScheduleAnswers bytes.now result }
+    ensures named { IfOk result AreNamed }
 {
     let tree = match read_json(alloc, bytes) {
         Ok(tree) => tree,
@@ -45,7 +48,8 @@ pub fn schedules_are_told_apart()
 
 /// The schedule that a tree says.
 fn schedule_in(alloc: Global, tree: &Value) -> Result<Schedule, ResultFault>
-    ensures { Places (IsScheduleTree (view tree.now)) (IsBadSchedule (view tree.now)) result }
+    ensures says { Places (IsScheduleTree (view tree.now)) (IsBadSchedule (view tree.now)) result }
+    ensures named { IfOk result AreNamed }
 {
     let Some(frames) = frames_of(tree) else {
         return Err(ResultFault::ScheduleForm {
@@ -72,7 +76,8 @@ fn frames_of(tree: &Value) -> Option<&[Value]>
 /// The frames that trees say.
 fn read_frames(alloc: Global, trees: &[Value]) -> Result<List<Frame>, ResultFault>
     requires { length trees.now ≤ 4294967295 }
-    ensures { Places (SayEach IsFrameTree (map view trees.now)) (BadFrames (map view trees.now)) result }
+    ensures says { Places (SayEach IsFrameTree (map view trees.now)) (BadFrames (map view trees.now)) result }
+    ensures named { IfOk result (AreAll IsNamed) }
 {
     let mut frames = List::new(alloc);
     'frames: for place in 0..trees.len() {
@@ -84,7 +89,8 @@ fn read_frames(alloc: Global, trees: &[Value]) -> Result<List<Frame>, ResultFaul
 
 /// The frame of this number that a tree says.
 fn read_frame(alloc: Global, tree: &Value, frame: u32) -> Result<Frame, ResultFault>
-    ensures { Places (IsFrameTree (view tree.now)) (BadFrameAt (view tree.now) frame) result }
+    ensures says { Places (IsFrameTree (view tree.now)) (BadFrameAt (view tree.now) frame) result }
+    ensures named { IfOk result IsNamed }
 {
     let Some((name, slots)) = frame_of(tree) else {
         return Err(ResultFault::ScheduleForm {
@@ -106,6 +112,7 @@ fn frame_of(tree: &Value) -> Option<(&str, &[Value])>
         × HasMember (codes "slots") (list (map view found.1.now)) (view tree.now)
         × AreFew (map view found.1.now)) }
     ensures few { IfSome result (λ found. length found.1.now ≤ 4294967295) }
+    ensures named { IfSome result (λ found. IsUtf8 found.0.now) }
 {
     let group = tree.get("group")?.as_str()?;
     let member = tree.get("slots")?;

@@ -1,6 +1,7 @@
 //! The results that three texts stand for.
 ghost use Rattle.std.specs.Prelude.{◌<◌, ◌^◌, IfOk, length};
 ghost use Rattle.emu_machine.specs.Building.{AreChips};
+ghost use Rattle.result_files.specs.Printed.{AreNamed};
 ghost use Rattle.result_files.specs.ThreeTexts.{ChipsAnswer, NetAnswers, ResultAnswers, ResultsAreToldApart};
 
 use crate::map_reader::read_map;
@@ -14,7 +15,7 @@ use verilog_lex::{each_text_has_one_answer, tokens};
 
 /// The results that a netlist, a schedule and a map stand for. A refusal names the first fault: those of
 /// the netlist come before those of the schedule, and these before those of the map. The netlist has at
-/// most 4,294,967,295 bytes.
+/// most 4,294,967,295 bytes. The names of the schedule's groups are UTF-8, so that it can be printed.
 pub fn read_results(
     alloc: Global,
     netlist: &[u8],
@@ -22,7 +23,8 @@ pub fn read_results(
     map: &[u8],
 ) -> Result<Results, ResultFault>
     requires { length netlist.now < 2 ^ 32 }
-    ensures { ResultAnswers netlist.now schedule.now map.now result }
+    ensures says { ResultAnswers netlist.now schedule.now map.now result }
+    ensures named { IfOk result (λ results. AreNamed results.schedule) }
 {
     let net = read_net(alloc, netlist)?;
     let schedule = read_schedule(alloc, schedule)?;

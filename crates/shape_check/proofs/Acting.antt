@@ -1,4 +1,4 @@
--- A5 and A8: the places of actions.
+-- A5, A8 and A10: the places of actions.
 use Rattle.std.proofs.Common.{◌≡◌, ◌<◌, ◌≤◌, ℕ, true, false, List, [], ◌∷◌, length, Option, None, Some, refl, sym, subst, ap, ◌∙◌, arith}
 use Rattle.std.specs.Prelude.{slice_get}
 use Rattle.std.specs.Option.{option_map_or}
@@ -12,7 +12,7 @@ use Rattle.emu_machine.specs.declared.schedule.Slot.{Slot}
 use Rattle.emu_machine.specs.State.{frame_slots}
 use Rattle.emu_machine.specs.Acceptance.{Case, action_at, fails_test, place_key, slot_actions}
 use Rattle.shape_check.specs.declared.actions.Test.{Test}
-use Rattle.shape_check.specs.declared.actions.Test.TheVariants.{IsThere, KeepsSubject}
+use Rattle.shape_check.specs.declared.actions.Test.TheVariants.{IsThere, KeepsSubject, SendsInside}
 use Rattle.shape_check.specs.Actions.{FailsTest, passes}
 use Rattle.use_check.specs.Least.{Begins, IsLeastUnder}
 use Rattle.use_check.proofs.Walk.{Just, Longer, here}
@@ -21,6 +21,7 @@ use Rattle.use_check.proofs.Walk.{Just, Longer, here}
 pub at_action : (c : Case) (test : Test) (at : Place) → FailsTest c test at → (k t j : ℕ) × (at ≡ place.Action k t j) × fails_test (passes c test k t) (action_at c k t j)
 at_action c IsThere (place.Action k t j) f = (k, t, j, refl, f)
 at_action c KeepsSubject (place.Action k t j) f = (k, t, j, refl, f)
+at_action c (SendsInside i) (place.Action k t j) f = (k, t, j, refl, f)
 at_action c IsThere (place.Frame k) f = absurd f
 at_action c IsThere (place.Chips m) f = absurd f
 at_action c IsThere (place.Gate a b) f = absurd f
@@ -47,10 +48,24 @@ at_action c KeepsSubject (place.Output a) f = absurd f
 at_action c KeepsSubject (place.EndRegister a b d) f = absurd f
 at_action c KeepsSubject (place.EndMemory a b d) f = absurd f
 at_action c KeepsSubject (place.EndRead a b d e) f = absurd f
+at_action c (SendsInside i) (place.Frame k) f = absurd f
+at_action c (SendsInside i) (place.Chips m) f = absurd f
+at_action c (SendsInside i) (place.Gate a b) f = absurd f
+at_action c (SendsInside i) (place.Weight a b) f = absurd f
+at_action c (SendsInside i) (place.Again a b d e) f = absurd f
+at_action c (SendsInside i) (place.Register a b) f = absurd f
+at_action c (SendsInside i) (place.Memory a b) f = absurd f
+at_action c (SendsInside i) (place.Input a) f = absurd f
+at_action c (SendsInside i) (place.Element a) f = absurd f
+at_action c (SendsInside i) (place.Output a) f = absurd f
+at_action c (SendsInside i) (place.EndRegister a b d) f = absurd f
+at_action c (SendsInside i) (place.EndMemory a b d) f = absurd f
+at_action c (SendsInside i) (place.EndRead a b d e) f = absurd f
 
 action_fails : (c : Case) (test : Test) (k t j : ℕ) → fails_test (passes c test k t) (action_at c k t j) → FailsTest c test (place.Action k t j)
 action_fails c IsThere k t j f = f
 action_fails c KeepsSubject k t j f = f
+action_fails c (SendsInside i) k t j f = f
 
 module _ (c : Case) (test : Test) where
   pub just_three : Just (FailsTest c test) 3

@@ -10,3 +10,8 @@ pub mod Lost
 pub mod Granted
 pub mod Ordered
 pub mod Turning
+pub mod Finishing
+pub mod FrameEnds
+pub mod Followed
+pub mod Shown
+pub mod Judged

@@ -42,7 +42,7 @@ numbered A10 = refl
 numbered A11 = refl
 numbered A12 = refl
 
-same_rule : (a b : Rule) → rule_number a ≡ rule_number b → a ≡ b
+pub same_rule : (a b : Rule) → rule_number a ≡ rule_number b → a ≡ b
 same_rule a b e = sym (numbered a) ∙ ap rule_of e ∙ numbered b
 
 -- the least place at which a rule fails, whatever the influences are

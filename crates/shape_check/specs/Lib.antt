@@ -5,4 +5,6 @@ pub mod Tables
 pub mod Ports
 pub mod Frames
 pub mod Mapped
+pub mod Influences
+pub mod Ends
 pub mod Verdict

@@ -4,7 +4,7 @@ use Rattle.std.specs.Prelude.{◌<◌, ◌≤◌, ℕ, Bool, Some}
 use Rattle.design_core.specs.declared.node.NodeId.{NodeId}
 use Rattle.emu_machine.specs.declared.place.Place.{Place}
 use Rattle.emu_machine.specs.declared.rule.Rule.{Rule}
-use Rattle.emu_machine.specs.Acceptance.{Case, Fails, Influences, IsFirstFailure, rule_number}
+use Rattle.emu_machine.specs.Acceptance.{Case, Fails, Influences, IsAccepted, IsFirstFailure, rule_number}
 use Rattle.use_check.specs.Least.{IsLeast, Never}
 use Rattle.shape_check.specs.declared.verdict.Verdict.{Verdict}
 use Rattle.shape_check.specs.declared.verdict.Verdict.TheVariants.{Accepted, Rejected}
@@ -26,7 +26,17 @@ abbrev pub FirstIsFirstFailure : Type 0
 FirstIsFirstFailure = (c : Case) (inside : ℕ → NodeId → Bool) (rule : Rule) (at : Place)
     → Influences c inside → IsFirst (Fails c inside) rule at → IsFirstFailure c rule at
 
+-- The verdict on all twelve rules: results are accepted where these hold, and else rejected with their first failure.
+abbrev pub IsVerdict : Case → Verdict → Type 0
+IsVerdict c Accepted = IsAccepted c
+IsVerdict c (Rejected rule at) = IsFirstFailure c rule at
+
 -- ## Inside the judge
+
+-- the verdict on all twelve rules, where these are the influences of the groups
+abbrev pub IsVerdictOn : Case → (ℕ → NodeId → Bool) → Verdict → Type 0
+IsVerdictOn c inside Accepted = (rule : Rule) → Never (Fails c inside rule)
+IsVerdictOn c inside (Rejected rule at) = IsFirst (Fails c inside) rule at
 
 -- the rules before the one of this number hold, whatever the influences are
 abbrev pub HoldBefore : Case → ℕ → Type 0

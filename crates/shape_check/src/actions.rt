@@ -1,23 +1,27 @@
-//! A5 and A8: what each action names.
+//! A5, A8 and A10: what each action names.
 
 ghost use Rattle.std.specs.Prelude.{◌≡◌, ◌≤◌, ◌<◌, ◌∷◌, [], length, slice_get, Some};
-ghost use Rattle.emu_machine.specs.Acceptance.{FailsA4, FailsA5, FailsA8, case_action_fits, keeps_subject, send_fits, slot_actions, same_subjects, register_subject};
+ghost use Rattle.emu_machine.specs.Acceptance.{FailsA10, FailsA4, FailsA5, FailsA8, case_action_fits, is_inside, keeps_subject, register_subject, same_subjects, send_fits, sends_inside, slot_actions};
 ghost use Rattle.emu_machine.specs.Mapped.{subject};
 ghost use Rattle.emu_machine.specs.State.{frame_slots};
 ghost use Rattle.shape_check.specs.Actions.{AreFew, FailsTest, passes};
+ghost use Rattle.shape_check.specs.Influences.{inside_of};
 ghost use Rattle.use_check.specs.Least.{IsLeast, IsLeastUnder, Never};
 
 use crate::ShapeCase;
+use crate::influences::Influences;
 use emu_machine::{Action, Place, Slot, Subject};
 use id_arena::{ChipNetId, RegId, Wire};
 
 /// What is asked of each action.
-#[derive(Clone, Copy, Debug, Drop, PartialEq, Eq)]
-pub(crate) enum Test {
+#[derive(Clone, Copy, Drop)]
+pub(crate) enum Test<'a> {
     /// All that it names is there and of its kind.
     IsThere,
     /// What it gives a register keeps its subject.
     KeepsSubject,
+    /// What it sends is in the influence of its frame.
+    SendsInside(&'a Influences<'a>),
 }
 
 /// A5: all that an action names is there and of its kind, and what is sent arrives within its frame. The
@@ -38,10 +42,19 @@ pub fn find_a8(case: &ShapeCase) -> Option<Place>
     find_action(case, Test::KeepsSubject)
 }
 
-/// The least action of all frames that does not pass.
-fn find_action(case: &ShapeCase, test: Test) -> Option<Place>
+/// A10: a `send` carries a net of the influence of its frame. The least action is named that does not. Takes a
+/// step for each action.
+pub(crate) fn find_a10(case: &ShapeCase, influences: &Influences) -> Option<Place>
     requires frames { Never (FailsA4 case.now) }
-    ensures { IsLeast (FailsTest case.now test) result }
+    ensures { IsLeast (FailsA10 case.now (inside_of influences.now)) result }
+{
+    find_action(case, Test::SendsInside(influences))
+}
+
+/// The least action of all frames that does not pass.
+fn find_action(case: &ShapeCase, test: Test<'_>) -> Option<Place>
+    requires frames { Never (FailsA4 case.now) }
+    ensures { IsLeast (FailsTest case.now test.entry) result }
 {
     case.stands();
     let frames = case.frames();
@@ -54,10 +67,10 @@ fn find_action(case: &ShapeCase, test: Test) -> Option<Place>
 }
 
 /// The same of the slots of one frame.
-fn find_in_frame(case: &ShapeCase, test: Test, frame: u32, slots: &[Slot]) -> Option<Place>
+fn find_in_frame(case: &ShapeCase, test: Test<'_>, frame: u32, slots: &[Slot]) -> Option<Place>
     requires few { AreFew case.now }
     requires slots { slots.now ≡ frame_slots case.now.results frame }
-    ensures { IsLeastUnder (FailsTest case.now test) (frame ∷ []) result }
+    ensures { IsLeastUnder (FailsTest case.now test.entry) (frame ∷ []) result }
 {
     case.stands();
     'each: for t in 0..slots.len() {
@@ -71,7 +84,7 @@ fn find_in_frame(case: &ShapeCase, test: Test, frame: u32, slots: &[Slot]) -> Op
 /// The same of the actions of one slot.
 fn find_in_slot(
     case: &ShapeCase,
-    test: Test,
+    test: Test<'_>,
     frame: u32,
     slot: u32,
     actions: &[Action],
@@ -79,7 +92,7 @@ fn find_in_slot(
     requires slot { slot < 65535 }
     requires few { length actions.now ≤ 4294967295 }
     requires actions { actions.now ≡ slot_actions case.now frame slot }
-    ensures { IsLeastUnder (FailsTest case.now test) (frame ∷ slot ∷ []) result }
+    ensures { IsLeastUnder (FailsTest case.now test.entry) (frame ∷ slot ∷ []) result }
 {
     'each: for j in 0..actions.len() {
         if !is_passed(case, test, frame, slot, actions[j]) {
@@ -93,13 +106,14 @@ fn find_in_slot(
     None
 }
 
-fn is_passed(case: &ShapeCase, test: Test, frame: u32, slot: u32, action: Action) -> bool
+fn is_passed(case: &ShapeCase, test: Test<'_>, frame: u32, slot: u32, action: Action) -> bool
     requires slot { slot < 65535 }
-    ensures { result ≡ passes case.now test frame slot action }
+    ensures { result ≡ passes case.now test.entry frame slot action }
 {
     match test {
         Test::IsThere => is_there(case, frame, slot, action),
         Test::KeepsSubject => keeps_subject(case, action),
+        Test::SendsInside(influences) => sends_inside(case, influences, frame, action),
     }
 }
 
@@ -173,6 +187,29 @@ fn keeps_subject(case: &ShapeCase, action: Action) -> bool
             ),
         },
         _ => true,
+    }
+}
+
+/// Whether what an action sends, if it sends, is in the influence of its frame.
+fn sends_inside(case: &ShapeCase, influences: &Influences, frame: u32, action: Action) -> bool
+    ensures { result ≡ sends_inside case.now (inside_of influences.now frame) action }
+{
+    match action {
+        Action::Send { wire, net, .. } => match case.wire(wire) {
+            None => false,
+            Some(ends) => is_inside(influences, frame, case.subject(ends.from, net)),
+        },
+        _ => true,
+    }
+}
+
+/// Whether a subject is a net of the influence of a frame.
+fn is_inside(influences: &Influences, frame: u32, what: Option<Subject>) -> bool
+    ensures { result ≡ is_inside (inside_of influences.now frame) what }
+{
+    match what {
+        Some(Subject::Net(net)) => influences.has_net(frame, net),
+        _ => false,
     }
 }
 

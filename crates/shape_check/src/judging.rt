@@ -44,7 +44,7 @@ pub fn judge_shape(
 }
 
 /// The same of a case. Each rule is asked where those before it hold.
-fn judge_case(alloc: Global, case: &ShapeCase) -> Result<Verdict, NoMemory>
+pub(crate) fn judge_case(alloc: Global, case: &ShapeCase) -> Result<Verdict, NoMemory>
     ensures { IfOk result (λ verdict. IsShapeVerdict case.now verdict) }
 {
     'each: for k in 0..9u8 {

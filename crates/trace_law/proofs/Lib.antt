@@ -1,6 +1,6 @@
 pub mod Spots
 pub mod Histories
 pub mod Breaks
-pub mod PlainChips
-pub mod PlainLoads
+pub mod Kept
+pub mod Given
 pub mod Alike

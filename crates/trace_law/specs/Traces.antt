@@ -13,11 +13,11 @@ use Rattle.design_core.specs.Event.{Follow, IsHistory, HasOneHistory}
 use Rattle.emu_io.specs.Sink.{AppendsWhereTold}
 use Rattle.emu_machine.specs.State.{State, run_of}
 use Rattle.emu_machine.specs.Mapped.{IsLoaded}
-use Rattle.emu_machine.specs.declared.rule.Rule.TheVariants.{A2, A5, A9}
+use Rattle.emu_machine.specs.declared.rule.Rule.TheVariants.{A2, A5, A7, A9}
 use Rattle.emu_machine.specs.Acceptance.{Case, Holds, IsAccepted}
 use Rattle.emu_machine.specs.Headline.{EventsFit, event_values}
+use Rattle.emu_machine.specs.Building.{IsBuilt}
 use Rattle.emu_machine.specs.Law.{IsCase}
-use Rattle.emu_machine.specs.Plain.{IsPlainResults}
 use Rattle.cycle_sim.specs.Loading.{FreeAreZero}
 use Rattle.domain_groups.specs.Traces.{outputs_of, settled_trace, machine_trace, BreaksOff, trace_of}
 
@@ -34,15 +34,16 @@ TracesAgree =
     → IsLoaded c.design c.results v x
     → machine_trace c.design c.results (run_of c.results c.board.wires x events) ≡ settled_trace c.design vs
 
--- where rules A2 and A5 hold and the results are plain, all machines that are loaded from one valuation, with 0
--- in each free register and read net, have one trace, whatever the events
+-- where rules A2, A5 and A7 hold, all machines that are loaded from one valuation, with 0 in each free register and
+-- read net, have one trace, whatever the events and whatever the wires carry at first
 abbrev pub LoadedTraceIsOne : Type 0
 LoadedTraceIsOne =
     (c : Case) (inside : ℕ → NodeId → Bool) (events : List Event) (v : Valuation) (x y : State)
     → IsCase c
-    → IsPlainResults c.results
+    → IsBuilt c.results.net
     → Holds c inside A2
     → Holds c inside A5
+    → Holds c inside A7
     → IsLoaded c.design c.results v x
     → FreeAreZero c.results x
     → IsLoaded c.design c.results v y

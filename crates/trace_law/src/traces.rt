@@ -8,8 +8,8 @@ pub fn traces_agree()
     ensures { TracesAgree }
 {}
 
-/// Where rules A2 and A5 hold and the results are plain, all machines that are loaded from one valuation,
-/// with 0 in each free register and read net, have one trace, whatever the events.
+/// Where rules A2, A5 and A7 hold, all machines that are loaded from one valuation, with 0 in each free
+/// register and read net, have one trace, whatever the events and whatever the wires carry at first.
 pub fn loaded_trace_is_one()
     ensures { LoadedTraceIsOne }
 {}

@@ -1,10 +1,11 @@
 use Rattle.std.proofs.Common.{rules, ◌≡◌, Ok, Err, subst, sym}
 use Rattle.cell_table.specs.Table.{Stands}
 use Rattle.flattening.specs.Stands.{given_by}
-use Rattle.emu_app.specs.declared.what.What.TheVariants.{Design, Cells}
+use Rattle.case_texts.specs.declared.what.What.TheVariants.{Design, Cells}
 use Rattle.emu_app.specs.Fetching.{texts_of}
-use Rattle.emu_app.specs.Forms.{HasTree, IsTreeOf, SaysDesign}
-use Rattle.emu_app.specs.Reading.{AllMean, CellsMean, DesignMeans, TreeMeans}
+use Rattle.case_texts.specs.Forms.{HasTree, IsTreeOf, SaysDesign}
+use Rattle.case_texts.specs.Reading.{CellsMean, TreeMeans}
+use Rattle.emu_app.specs.Reading.{AllMean, DesignMeans}
 use Rattle.emu_app.proofs.FirstUnread.{refused_cells, refused_design, refused_tree, says_design}
 use Rattle.emu_app.proofs.reading.read_first.Goals as goal
 

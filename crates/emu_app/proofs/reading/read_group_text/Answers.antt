@@ -1,9 +1,10 @@
 use Rattle.std.proofs.Common.{rules, ◌≡◌, Err, subst, sym}
 use Rattle.domain_groups.specs.Groups.{InputGroups}
-use Rattle.emu_app.specs.declared.what.What.TheVariants.{Groups}
+use Rattle.case_texts.specs.declared.what.What.TheVariants.{Groups}
+use Rattle.case_texts.specs.Forms.{SaysGroups}
+use Rattle.case_texts.specs.Reading.{GroupsMean}
 use Rattle.emu_app.specs.Fetching.{texts_of}
-use Rattle.emu_app.specs.Forms.{SaysGroups}
-use Rattle.emu_app.specs.Reading.{AllMean, GroupsMean}
+use Rattle.emu_app.specs.Reading.{AllMean}
 use Rattle.emu_app.proofs.FirstUnread.{refused_groups, before_groups}
 use Rattle.emu_app.proofs.reading.read_group_text.Goals as goal
 
@@ -15,6 +16,6 @@ returns-in_err-groups c =
     subst (λ bytes. GroupsMean c.args.design.now bytes (Err c.in_err-groups.field-0.0)) c.text_at.ensures c.in_err-groups.ensures in
     let Says : InputGroups → Type 0 = SaysGroups c.args.design.now (texts Groups) in
     subst (AllMean c.args.command c.args.top.now texts Says) (sym same)
-    (refused_groups c.each_text_has_one_design.ensures c.each_text_has_one_answer.ensures c.args.command c.args.top.now texts Says c.args.design.now c.in_err-groups.field-0.0
+    (refused_groups c.faulty_texts_are_unread.ensures c.args.command c.args.top.now texts Says c.args.design.now c.in_err-groups.field-0.0
     means c.requires.says c.requires.groups
-    (before_groups c.args.command c.args.top.now texts c.args.design.now c.requires.says c.requires.ranked c.requires.takes))
+    (before_groups c.args.command c.args.top.now texts c.args.design.now c.requires.says c.requires.ranked))

@@ -19,5 +19,5 @@ returns-clause-loaded c =
     (λ (t : Tables). (v : Valuation) → IsOpened p (stands_for c.args.opening.now) v → IsLoaded p c.args.results.now v (state_of t))
     c.from_settled.result
     (λ t. opened_loaded c.opened_are_same.ensures p c.args.opening.now c.args.results.now (valuation c.in_ok-settled.settled) (state_of t)
-    design c.stands-2.ensures.ranked fits c.requires.results c.requires.mapped c.in_ok-settled.ensures.opened)
+    design c.stands-2.ensures.ranked fits c.requires.kept c.in_ok-settled.ensures.opened)
     (subst (λ (q : Parts). IfOk c.from_settled.result (λ t. IsLoaded q c.args.results.now (valuation c.in_ok-settled.settled) (state_of t))) c.design-2.ensures c.from_settled.ensures.loaded)

@@ -1,7 +1,7 @@
-use Rattle.emu_app.specs.declared.command.Command.{Command}
 use Rattle.emu_app.specs.Answers.{FoundMeans, TraceMeans, TraceOf, WorkMeans}
 use Rattle.emu_app.specs.Command.{CommandWords, words_of}
-use Rattle.emu_app.specs.Fetching.{Texts, texts_of}
+use Rattle.case_texts.specs.What.{Texts}
+use Rattle.emu_app.specs.Fetching.{texts_of}
 use Rattle.emu_app.proofs.Comes.{comes_as, found_means, found_trace}
 use Rattle.emu_app.proofs.top.fetch_and_work.Goals as goal
 

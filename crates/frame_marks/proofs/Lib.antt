@@ -1,0 +1,14 @@
+pub mod Gifts
+pub mod Numbers
+pub mod Naming
+pub mod Ports
+pub mod Giving
+pub mod Reading
+pub mod Writing
+pub mod Sending
+pub mod Passing
+pub mod Putting
+pub mod Stepping
+pub mod Starting
+pub mod Building
+pub mod Originals

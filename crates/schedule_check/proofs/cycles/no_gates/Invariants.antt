@@ -1,5 +1,0 @@
-use Rattle.std.proofs.Common.{◌≡◌, replicate}
-use Rattle.schedule_check.proofs.cycles.no_gates.Given as goal
-
-abbrev pub invariant-each : goal.invariant-each
-invariant-each l = l.table ≡ replicate l.counter 4294967295
