@@ -1,8 +1,8 @@
 -- Tables for all chips, made one after the other.
-use Rattle.std.proofs.Common.{◌≡◌, ◌<◌, ◌≤◌, ◌+◌, ℕ, Bool, List, [], ◌∷◌, ◌++◌, get_or, length, refl, sym, ap, subst, ◌∙◌, inl, inr, arith}
+use Rattle.std.proofs.Common.{◌≡◌, ◌<◌, ◌≤◌, ◌+◌, ℕ, Bool, List, [], ◌∷◌, ◌++◌, get_or, length, sym, ap, subst, ◌∙◌, inl, inr, arith}
 use Rattle.std.specs.Prelude.{◌⊎◌, Some, slice_get}
 use Rattle.std.proofs.lemmas.Bool.{cases_eq, cases_lt}
-use Rattle.std.proofs.lemmas.Option.{none-some, slice_get_past, slice_get_within, slice_get-get_or, same_Some}
+use Rattle.std.proofs.lemmas.Option.{slice_get_within, slice_get-get_or, same_Some}
 use Rattle.std.proofs.lemmas.List.{length-append, get_or_push, get_or_append_left, get_or_past}
 use Rattle.gate_cycles.specs.Gates.{IsDriven}
 use Rattle.emu_machine.specs.declared.netlist.Chip.{Chip}
@@ -21,21 +21,6 @@ use Rattle.frame_marks.proofs.Numbers.{chip_is, chip_far}
 pub record FirstTell {T : Type 0} (Tells : ℕ → List T → Type 0) (count : ℕ) (tables : List (List T)) : Type 0 where
   pub count_is : length tables ≡ count
   pub each : (c : ℕ) → c < count → Tells c (get_or tables c [])
-
-pub none_tell : {T : Type 0} (Tells : ℕ → List T → Type 0) → FirstTell Tells 0 []
-none_tell Tells = record { count_is = refl; each = λ c low. absurd (omega (arith, low)) }
-
-pub one_tells : {T : Type 0} (Tells : ℕ → List T → Type 0) (c : ℕ) (tables : List (List T)) → FirstTell Tells c tables → (one : List T) → Tells c one → FirstTell Tells (c + 1) (tables ++ one ∷ [])
-one_tells Tells c tables first one tells =
-    record { count_is = length-append tables (one ∷ []) ∙ ap (λ (n : ℕ). n + 1) first.count_is; each = λ k low. go k low (cases_eq k c) }
-  where
-    go : (k : ℕ) → k < c + 1 → (k ≡ c) ⊎ (k ≡ c → ⊥) → Tells k (get_or (tables ++ one ∷ []) k [])
-    go k low (inl same) =
-        subst (λ (i : ℕ). Tells i (get_or (tables ++ one ∷ []) i [])) (sym same)
-        (subst (Tells c) (sym (get_or_push tables one [] c first.count_is)) tells)
-    go k low (inr other) =
-        let earlier : k < c = omega (arith, low, other) in
-        subst (Tells k) (sym (get_or_append_left tables (one ∷ []) [] k (omega (arith, earlier, first.count_is)))) (first.each k earlier)
 
 abbrev pub FirstKept : Results → ℕ → List (List Bool) → Type 0
 FirstKept r count kept = FirstTell (AreKept r) count kept
@@ -110,11 +95,3 @@ one_chip r c chips first new chip is =
     pass_of : (k : ℕ) (s : ChipState Mark) → slice_get (chips ++ new ∷ []) k ≡ Some s → (k ≡ c) ⊎ (k ≡ c → ⊥) → IsChipPass s
     pass_of k s at (inl same) = subst (λ (x : ChipState Mark). IsChipPass x) (last k s at same) is
     pass_of k s at (inr other) = first.pass k s (earlier k s at other)
-
-pub no_chips : (r : Results) → FirstChips r 0 []
-no_chips r =
-    record {
-      count_is = refl;
-      chip = λ c s at. absurd (none-some s (sym (slice_get_past [] c (omega arith)) ∙ at));
-      pass = λ c s at. absurd (none-some s (sym (slice_get_past [] c (omega arith)) ∙ at));
-    }

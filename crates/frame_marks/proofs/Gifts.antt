@@ -1,6 +1,6 @@
 -- Lists of what places of chips are given.
 use Rattle.std.proofs.Common.{◌≡◌, ℕ, ◌+◌, Bool, true, false, List, [], ◌∷◌, ◌++◌, take, drop, refl, sym, ap, ◌∙◌, if◌then◌else◌}
-use Rattle.std.specs.Prelude.{◌==◌, ◌&&◌, Option, Some, None, slice_get, unwrap_or, option_map, All}
+use Rattle.std.specs.Prelude.{◌==◌, ◌&&◌, Option, Some, None, slice_get, unwrap_or, All}
 use Rattle.std.specs.Option.{option_or}
 use Rattle.std.proofs.lemmas.List.Elements.{All-nil, All-cons, All-append}
 use Rattle.std.proofs.lemmas.List.{drop_more, take_more}
@@ -55,34 +55,12 @@ pub one_more : {T : Type 0} (gives : ℕ → ℕ → Option T) (before : List (G
     → ((c n : ℕ) → given_in (g ∷ []) c n ≡ gives c n) → HasMore gives before (before ++ g ∷ [])
 one_more gives before g is c n = given_append before (g ∷ []) c n ∙ ap (option_or (given_in before c n)) (is c n)
 
-pub nothing_more : {T : Type 0} (gives : ℕ → ℕ → Option T) (before : List (Given T)) → ((c n : ℕ) → None ≡ gives c n) → HasMore gives before before
-nothing_more gives before none c n = sym (or_none (given_in before c n)) ∙ ap (option_or (given_in before c n)) (none c n)
-
 -- the same list, from the place of one on
 pub split_at : {X : Type 0} (xs : List X) (k left : ℕ) → left ≡ k + 1 → (x : X) → slice_get xs k ≡ Some x → drop k xs ≡ x ∷ drop left xs
 split_at xs k left next x at =
     drop_more xs k x (slice_get_within xs k x at)
     ∙ ap (λ a. a ∷ drop (k + 1) xs) (get_or_from_slice_get xs k x x at)
     ∙ ap (λ (i : ℕ). x ∷ drop i xs) (sym next)
-
--- what is put first of two lists counts
-pub put_two : {T : Type 0} (widen : T → T) (g : Given T) (rest : List (Given T)) (c n : ℕ) (x : T)
-    → unwrap_or (option_map widen (given_in (g ∷ []) c n)) (unwrap_or (option_map widen (given_in rest c n)) x) ≡ unwrap_or (option_map widen (given_in (g ∷ rest) c n)) x
-put_two widen g rest c n x = go ((g.chip.place == c) && (g.place == n))
-  where
-    go : (b : Bool)
-        → unwrap_or (option_map widen (if b then Some g.what else None)) (unwrap_or (option_map widen (given_in rest c n)) x)
-        ≡ unwrap_or (option_map widen (if b then Some g.what else given_in rest c n)) x
-    go true = refl
-    go false = refl
-
-pub wrote_two : {T : Type 0} (g : Given T) (rest : List (Given T)) (c n : ℕ) (x : T)
-    → unwrap_or (given_in (g ∷ []) c n) (unwrap_or (given_in rest c n) x) ≡ unwrap_or (given_in (g ∷ rest) c n) x
-wrote_two g rest c n x = go ((g.chip.place == c) && (g.place == n))
-  where
-    go : (b : Bool) → unwrap_or (if b then Some g.what else None) (unwrap_or (given_in rest c n) x) ≡ unwrap_or (if b then Some g.what else given_in rest c n) x
-    go true = refl
-    go false = refl
 
 -- one more of some that all pass a test
 pub all_one : {X : Type 0} (P : X → Type 0) (xs : List X) (x : X) → All P xs → P x → All P (xs ++ x ∷ [])

@@ -28,7 +28,7 @@ use Rattle.frame_marks.specs.declared.tables.Given.{Given}
 use Rattle.frame_marks.specs.Frames.{FrameState, mark_in}
 use Rattle.frame_marks.specs.Tables.{IsStart, marks_in}
 use Rattle.frame_marks.specs.Takes.{given_in, HasMore, GivesOne, GivesAll, AreFree, IsFree, bits_take}
-use Rattle.frame_marks.proofs.Gifts.{or_assoc, or_none, first_more, given_append, one_more, nothing_more, all_one}
+use Rattle.frame_marks.proofs.Gifts.{or_assoc, or_none, first_more, given_append, one_more, all_one}
 
 is_less : (a b : ℕ) → a < b → nat_lt a b ≡ true
 is_less a b h = grind (arith, nat_tests)
@@ -79,15 +79,6 @@ module _ (r : Results) (chip : ChipId) (number : ℕ) (register : EmuRegister) (
       one_more (on_register r.net chip.place number gives) before (net_gift chip register.q.place mark)
       (λ c n.
       nested (chip.place == c) (register.q.place == n) mark
-      ∙ ap (λ o. if chip.place == c then (if register.q.place == n then o else None) else None) (sym is)
-      ∙ sym (on_is gives c n))
-
-  pub register_left : (gives : EmuRegister → Option Mark) → gives register ≡ None
-      → (before : List (Given Mark)) → HasMore (on_register r.net chip.place number gives) before before
-  register_left gives is before =
-      nothing_more (on_register r.net chip.place number gives) before
-      (λ c n.
-      nothing (chip.place == c) (register.q.place == n)
       ∙ ap (λ o. if chip.place == c then (if register.q.place == n then o else None) else None) (sym is)
       ∙ sym (on_is gives c n))
 
@@ -179,13 +170,6 @@ bits_more chip bits k net mark at first before after more is c n =
     go true = refl
     go false = refl
 
-pub no_bits : (chip : ChipId) (mark : Mark) (first : List (Given Mark)) → HasMore (bits_take chip.place [] mark) first first
-no_bits chip mark first = nothing_more (bits_take chip.place [] mark) first (λ c n. go (chip.place == c))
-  where
-    go : (b : Bool) → None ≡ (if b then (let o : Option Mark = None in o) else None)
-    go true = refl
-    go false = refl
-
 -- ## Several actions
 
 module _ (f : FrameState) (actions : List Action) where
@@ -195,9 +179,6 @@ module _ (f : FrameState) (actions : List Action) where
       one inside s start c n
       ∙ ap (λ o. option_or o (action_mark f.design f.results f.wires inside s a c n)) (all inside s start c n)
       ∙ sym (first_more (λ a. action_mark f.design f.results f.wires inside s a c n) actions k a at)
-
-pub none_given : (f : FrameState) → GivesAll f [] []
-none_given f inside s start c n = refl
 
 pub all_given : (f : FrameState) (actions : List Action) (k : ℕ) → length actions ≤ k → (given : List (Given Mark)) → GivesAll f (take k actions) given → GivesAll f actions given
 all_given f actions k whole given all =
@@ -229,15 +210,6 @@ module _ (f : FrameState) (chip : ChipId) (number : RegId) (register : EmuRegist
       (register_given f.results chip number.place register at (λ q. load_mark (λ m. net_mark f.design f.results inside s chip.place m.place) q.q q.d q.enable) mark
       (sym (gives ∙ loaded_same (λ n. mark_in f.chips chip.place n.place) (λ m. net_mark f.design f.results inside s chip.place m.place)
       (chip_at f.results.net chip.place).nets register.q register.d register.enable there.q there.d there.enable (λ m low. start.all chip.place m.place low))) before)
-
-pub load_left : (f : FrameState) (chip : ChipId) (number : RegId) (register : EmuRegister) → slice_get (chip_at f.results.net chip.place).registers number.place ≡ Some register
-    → IsRegisterOf (chip_at f.results.net chip.place).nets register
-    → None ≡ load_mark (λ n. mark_in f.chips chip.place n.place) register.q register.d register.enable
-    → (before : List (Given Mark)) → GivesOne f (Load chip number) before before
-load_left f chip number register at there gives before inside s start =
-    register_left f.results chip number.place register at (λ q. load_mark (λ m. net_mark f.design f.results inside s chip.place m.place) q.q q.d q.enable)
-    (sym (gives ∙ loaded_same (λ n. mark_in f.chips chip.place n.place) (λ m. net_mark f.design f.results inside s chip.place m.place)
-    (chip_at f.results.net chip.place).nets register.q register.d register.enable there.q there.d there.enable (λ m low. start.all chip.place m.place low))) before
 
 pub send_given : (f : FrameState) (wire : WireId) (net : ChipNetId) (number : RegId) (ends : Wire) → slice_get f.wires wire.place ≡ Some ends
     → (register : EmuRegister) → slice_get (chip_at f.results.net ends.to.place).registers number.place ≡ Some register

@@ -3,20 +3,15 @@ use Rattle.std.proofs.Common.{◌≡◌, ◌<◌, ◌≤◌, ℕ, List, [], get_
 use Rattle.std.specs.Prelude.{◌⊎◌, Option, Some, None, slice_get, unwrap_or}
 use Rattle.std.specs.Option.{option_map_or}
 use Rattle.std.proofs.lemmas.Bool.{cases_lt}
-use Rattle.std.proofs.lemmas.Option.{none-some, slice_get_past, slice_get-get_or, unwrap_or-slice_get}
+use Rattle.std.proofs.lemmas.Option.{none-some, slice_get_past, slice_get-get_or}
 use Rattle.chip_pass.specs.Chips.{ChipState}
 use Rattle.emu_machine.specs.declared.netlist.Chip.{Chip}
-use Rattle.emu_machine.specs.declared.netlist.EmuRegister.{EmuRegister}
 use Rattle.emu_machine.specs.Results.{Results}
 use Rattle.emu_machine.specs.Netlist.{no_chip, chip_at}
 use Rattle.emu_machine.specs.Marks.{Mark, no_mark}
 use Rattle.gate_pass.specs.Gates.{value_on}
 use Rattle.frame_marks.specs.Frames.{mark_in}
 use Rattle.frame_marks.specs.Tables.{nets_in, AreChipTables}
-
--- the chip of a number
-pub chip_here : (chips : List Chip) (c : ℕ) → c < length chips → slice_get chips c ≡ Some (chip_at chips c)
-chip_here chips c low = slice_get-get_or chips c no_chip low ∙ ap Some (sym (unwrap_or-slice_get chips c no_chip))
 
 pub chip_is : (chips : List Chip) (c : ℕ) (chip : Chip) → slice_get chips c ≡ Some chip → chip_at chips c ≡ chip
 chip_is chips c chip at = ap (λ o. unwrap_or o no_chip) at
@@ -31,20 +26,6 @@ net_chip_low chips c n low = go (cases_lt c (length chips))
     go : (c < length chips) ⊎ (length chips ≤ c) → c < length chips
     go (inl within) = within
     go (inr high) = let none : (chip_at chips c).nets ≡ 0 = ap (λ (chip : Chip). chip.nets) (chip_far chips c high) in absurd (omega (arith, none, low))
-
-pub memory_chip_low : (chips : List Chip) (c m : ℕ) → m < length (chip_at chips c).memories → c < length chips
-memory_chip_low chips c m low = go (cases_lt c (length chips))
-  where
-    go : (c < length chips) ⊎ (length chips ≤ c) → c < length chips
-    go (inl within) = within
-    go (inr high) = let none : length (chip_at chips c).memories ≡ 0 = ap (λ (chip : Chip). length chip.memories) (chip_far chips c high) in absurd (omega (arith, none, low))
-
-pub register_chip_low : (chips : List Chip) (c k : ℕ) (register : EmuRegister) → slice_get (chip_at chips c).registers k ≡ Some register → c < length chips
-register_chip_low chips c k register at = go (cases_lt c (length chips))
-  where
-    go : (c < length chips) ⊎ (length chips ≤ c) → c < length chips
-    go (inl low) = low
-    go (inr high) = absurd (none-some register (sym (ap (λ (chip : Chip). slice_get chip.registers k) (chip_far chips c high)) ∙ at))
 
 -- the tables of chips have their nets
 pub nets_are : (r : Results) (chips : List (ChipState Mark)) → AreChipTables r chips → (c : ℕ) → nets_in chips c ≡ (chip_at r.net c).nets

@@ -31,14 +31,6 @@ module _ (p : Parts) (r : Results) (c m : ℕ) where
       ap (λ o. option_map_or (design_writes p) o []) (memory_named (Some of) is)
       ∙ ap (λ o. option_map_or (λ (one : Memory). write_nodes of one) o []) at
 
-  pub no_memory : (of : MemId) → named ≡ Some of → slice_get p.memories of.place ≡ None → writes_of p r c m ≡ []
-  no_memory of is none =
-      ap (λ o. option_map_or (design_writes p) o []) (memory_named (Some of) is)
-      ∙ ap (λ o. option_map_or (λ (one : Memory). write_nodes of one) o []) none
-
-  pub no_original : named ≡ None → writes_of p r c m ≡ []
-  no_original is = ap (λ o. option_map_or (design_writes p) o []) (memory_named None is)
-
   pub count_is : (of : MemId) (memory : Memory) → named ≡ Some of → slice_get p.memories of.place ≡ Some memory → (count : ℕ) → count ≡ length memory.writes → count ≡ length (writes_of p r c m)
   count_is of memory is at count counts =
       counts ∙ sym (node_count of memory) ∙ sym (ap length (writes_are of memory is at))

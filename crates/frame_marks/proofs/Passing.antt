@@ -1,5 +1,5 @@
 -- Passes over the gates of all chips, one chip after the other.
-use Rattle.std.proofs.Common.{◌≡◌, ◌<◌, ◌≤◌, ◌+◌, ℕ, Bool, List, [], set, get_or, length, refl, sym, ap, subst, ◌∙◌, inl, inr, arith}
+use Rattle.std.proofs.Common.{◌≡◌, ◌<◌, ◌≤◌, ◌+◌, ℕ, Bool, List, [], set, get_or, length, sym, ap, subst, ◌∙◌, inl, inr, arith}
 use Rattle.std.specs.Prelude.{◌⊎◌, Some, None, slice_get}
 use Rattle.std.specs.Option.{option_map_or}
 use Rattle.std.proofs.lemmas.Bool.{cases_eq}
@@ -96,10 +96,6 @@ pub record FirstSettled (p : Parts) (r : Results) (inside : NodeId → Bool) (co
   pub rest : (c n : ℕ) → count ≤ c → mark_in after c n ≡ mark_in before c n
 
 module _ (p : Parts) (r : Results) (inside : NodeId → Bool) (before : List (ChipState Mark)) where
-  pub none_settled : AreChipTables r before → AllOthersWait p r inside before → FirstSettled p r inside 0 before before
-  none_settled tables others =
-      record { tables = tables; others = others; settled = λ c low. absurd (omega (arith, low)); rest = λ c n high. refl }
-
   module _ (c : ℕ) (chips : List (ChipState Mark)) (first : FirstSettled p r inside c before chips) (s new : ChipState Mark) (at : slice_get chips c ≡ Some s)
       (done : ChipHasSettled (gate_gives p r inside c) no_mark s new) (others : ChipOthersWait (gate_gives p r inside c) no_mark new) where
     pass_of_chip : IsChipPass s

@@ -1,8 +1,8 @@
 -- Free nets take what they are given.
-use Rattle.std.proofs.Common.{◌≡◌, ◌<◌, ◌≤◌, ◌+◌, ℕ, Bool, List, [], ◌∷◌, drop, set, length, refl, sym, ap, subst, ◌∙◌, inl, inr, if◌then◌else◌, arith}
+use Rattle.std.proofs.Common.{◌≡◌, ◌<◌, ℕ, Bool, List, [], ◌∷◌, drop, set, length, sym, ap, subst, ◌∙◌, inl, inr, if◌then◌else◌, arith}
 use Rattle.std.specs.Prelude.{◌==◌, ◌&&◌, ◌⊎◌, Some, None, slice_get, unwrap_or, option_map}
 use Rattle.std.proofs.lemmas.Bool.{cases_eq}
-use Rattle.std.proofs.lemmas.List.{length-set, get_or-set_same, get_or-set_other, drop_all}
+use Rattle.std.proofs.lemmas.List.{length-set, get_or-set_same, get_or-set_other}
 use Rattle.design_core.specs.declared.node.NodeId.{NodeId}
 use Rattle.gate_pass.specs.Gates.{PassState, NetHasTaken, value_on}
 use Rattle.chip_pass.specs.Chips.{ChipState, IsChipPass}
@@ -16,7 +16,6 @@ use Rattle.frame_marks.specs.declared.tables.Given.{Given}
 use Rattle.frame_marks.specs.Frames.{mark_in}
 use Rattle.frame_marks.specs.Tables.{AreChipTables}
 use Rattle.frame_marks.specs.Takes.{given_in, HavePut}
-use Rattle.frame_marks.proofs.Gifts.{put_two, split_at}
 use Rattle.frame_marks.proofs.Giving.{is_other}
 use Rattle.frame_marks.proofs.Numbers.{mark_is}
 use Rattle.frame_marks.proofs.Passing.{same_pass, tables_set, mark_same, mark_other}
@@ -97,18 +96,5 @@ module _ (r : Results) (inside : NodeId → Bool) (chips : List (ChipState Mark)
               ∙ sym (ap (λ b. unwrap_or (option_map (widened inside (subject r c n)) (if b then Some g.what else None)) (mark_in chips c n)) (is_other g.place n other))
 
 module _ (r : Results) (inside : NodeId → Bool) (given : List (Given Mark)) where
-  pub none_put : (left : ℕ) → length given ≤ left → (chips : List (ChipState Mark)) → HavePut r inside (drop left given) chips chips
-  none_put left whole chips =
-      subst (λ some. HavePut r inside some chips chips) (sym (drop_all left given whole)) (λ c n free. refl)
-
-  pub more_put : (k left : ℕ) → left ≡ k + 1 → (g : Given Mark) → slice_get given k ≡ Some g
-      → (before mid after : List (ChipState Mark)) → HavePut r inside (drop left given) before mid → HavePut r inside (g ∷ []) mid after → HavePut r inside (drop k given) before after
-  more_put k left next g at before mid after rest one =
-      subst (λ some. HavePut r inside some before after) (sym (split_at given k left next g at))
-      (λ c n free.
-      one c n free
-      ∙ ap (unwrap_or (option_map (widened inside (subject r c n)) (given_in (g ∷ []) c n))) (rest c n free)
-      ∙ put_two (widened inside (subject r c n)) g (drop left given) c n (mark_in before c n))
-
   pub all_put : (left : ℕ) → left ≡ 0 → (before after : List (ChipState Mark)) → HavePut r inside (drop left given) before after → HavePut r inside given before after
   all_put left none before after h = subst (λ (k : ℕ). HavePut r inside (drop k given) before after) none h

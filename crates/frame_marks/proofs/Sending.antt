@@ -1,8 +1,8 @@
 -- What actions put on wires.
-use Rattle.std.proofs.Common.{◌≡◌, ◌<◌, ◌≤◌, ◌+◌, ℕ, List, ◌∷◌, drop, set, get_or, length, refl, sym, ap, subst, ◌∙◌, inl, inr, if◌then◌else◌, arith}
+use Rattle.std.proofs.Common.{◌≡◌, ◌<◌, ◌+◌, ℕ, List, ◌∷◌, drop, set, get_or, length, sym, ap, subst, ◌∙◌, inl, inr, if◌then◌else◌, arith}
 use Rattle.std.specs.Prelude.{◌==◌, ◌⊎◌, Some, None, slice_get, unwrap_or, option_map}
 use Rattle.std.proofs.lemmas.Bool.{cases_eq}
-use Rattle.std.proofs.lemmas.List.{get_or-set_same, get_or-set_other, drop_all}
+use Rattle.std.proofs.lemmas.List.{get_or-set_same, get_or-set_other}
 use Rattle.std.proofs.lemmas.Option.{slice_get_within}
 use Rattle.id_arena.specs.declared.keys.ChipNetId.{ChipNetId}
 use Rattle.id_arena.specs.declared.keys.RegId.{RegId}
@@ -53,10 +53,6 @@ module _ (p : Parts) (r : Results) (wires : List Wire) (chips : List (ChipState 
           ∙ sym (ap (λ b. unwrap_or (if b then option_map (λ (ends : Wire). net_mark p r inside s ends.from.place net.place) (slice_get wires w) else None) (get_or before w no_mark)) (is_other wire.place w other))
 
 module _ (p : Parts) (r : Results) (wires : List Wire) (chips : List (ChipState Mark)) where
-  pub nothing_sent : (actions : List Action) (left : ℕ) → length actions ≤ left → (carried : List Mark) → SendsAll p r wires chips (drop left actions) carried carried
-  nothing_sent actions left whole carried =
-      subst (λ (some : List Action). SendsAll p r wires chips some carried carried) (sym (drop_all left actions whole)) (λ inside s hold w. refl)
-
   pub more_sent : (actions : List Action) (k left : ℕ) → left ≡ k + 1 → (action : Action) → slice_get actions k ≡ Some action
       → (before carried after : List Mark) → SendsAll p r wires chips (drop left actions) before carried → SendsOne p r wires chips action carried after
       → SendsAll p r wires chips (drop k actions) before after

@@ -3,7 +3,7 @@ use Rattle.std.proofs.Common.{◌≡◌, ◌<◌, ◌≤◌, ◌+◌, ℕ, zero,
 use Rattle.std.specs.Prelude.{◌==◌, ◌||◌, not, ◌⊎◌, Option, Some, None, slice_get, is_some, find, count_by}
 use Rattle.std.specs.List.{enumerate_from}
 use Rattle.std.specs.Option.{option_or}
-use Rattle.std.proofs.lemmas.Bool.{cases_eq, leb-true}
+use Rattle.std.proofs.lemmas.Bool.{cases_eq}
 use Rattle.std.proofs.lemmas.List.{length-map, get_or-map, get_or_default}
 use Rattle.std.proofs.lemmas.List.FromFn.{length-enumerate_from, get_or-enumerate_from}
 use Rattle.std.proofs.lemmas.List.Sums.{count_by_more_yes, count_by_more_no}
@@ -18,12 +18,10 @@ use Rattle.design_core.specs.declared.element.WritePort.{WritePort}
 use Rattle.design_core.specs.Dependency.{write_nodes}
 use Rattle.design_core.specs.declared.parts.Parts.{Parts}
 use Rattle.design_core.specs.declared.element.Memory.{Memory}
-use Rattle.design_core.specs.Design.{memory_fits}
 use Rattle.design_core.proofs.Owning.{get-set_other, get-set_same}
 use Rattle.gate_pass.specs.Gates.{value_on}
 use Rattle.chip_pass.specs.Chips.{ChipState, ChipOthersWait, IsChipPass}
 use Rattle.mark_rule.specs.Gates.{gate_gives}
-use Rattle.emu_machine.specs.declared.netlist.Chip.{Chip}
 use Rattle.emu_machine.specs.declared.netlist.EmuGate.{EmuGate}
 use Rattle.emu_machine.specs.Results.{Results}
 use Rattle.emu_machine.specs.Building.{IsBuilt}
@@ -31,13 +29,13 @@ use Rattle.mark_rule.proofs.Free.{chip_formed}
 use Rattle.emu_machine.specs.Netlist.{chip_at, is_chip_net, gate_of}
 use Rattle.emu_machine.specs.Mapped.{subject, is_kept}
 use Rattle.emu_machine.specs.Marks.{Mark, no_mark, widened, start_marks}
-use Rattle.facts.proofs.Tests.{no, same_number, left, right}
+use Rattle.facts.proofs.Tests.{no, same_number}
 use Rattle.frame_marks.specs.declared.tables.MemoryMarks.{MemoryMarks}
 use Rattle.frame_marks.specs.Frames.{frame_state, mark_in, memory_in, unwritten}
-use Rattle.frame_marks.specs.Starts.{AreGated, OutputsTold, first_mark, start_mark, start_memory, ChipHasStarted, NetsHaveStarted, HaveStarted, RowHasStarted, MemoriesHaveStarted, WiresHaveStarted}
+use Rattle.frame_marks.specs.Starts.{OutputsTold, first_mark, start_mark, start_memory, ChipHasStarted, NetsHaveStarted, HaveStarted, RowHasStarted, MemoriesHaveStarted, WiresHaveStarted}
 use Rattle.frame_marks.specs.Tables.{AreTables, AreChipTables, AreMemoryTables, AllOthersWait, IsBetween}
 use Rattle.frame_marks.proofs.Giving.{is_other}
-use Rattle.frame_marks.proofs.Numbers.{net_chip_low, memory_chip_low}
+use Rattle.frame_marks.proofs.Numbers.{net_chip_low}
 use Rattle.frame_marks.proofs.Passing.{tables_set, mark_same, mark_other}
 
 -- ## Nets that gates drive
@@ -125,18 +123,11 @@ pub record FirstStarted (p : Parts) (r : Results) (inside : NodeId → Bool) (co
   pub others : (c : ℕ) (s : ChipState Mark) → c < count → slice_get chips c ≡ Some s → ChipOthersWait (gate_gives p r inside c) no_mark s
   pub started : (c n : ℕ) → c < count → n < (chip_at r.net c).nets → gate_of (chip_at r.net c) n ≡ None → mark_in chips c n ≡ first_mark r inside c n
 
-pub none_started : (p : Parts) (r : Results) (inside : NodeId → Bool) (chips : List (ChipState Mark)) → AreChipTables r chips → FirstStarted p r inside 0 chips
-none_started p r inside chips tables =
-    record { tables = tables; others = λ c s low. absurd (omega (arith, low)); started = λ c n low. absurd (omega (arith, low)) }
-
 -- ## Memories, one chip after the other
 
 pub record FirstMemories (p : Parts) (r : Results) (inside : NodeId → Bool) (count : ℕ) (memories : List (List MemoryMarks)) : Type 0 where
   pub tables : AreMemoryTables r memories
   pub started : (c m : ℕ) → c < count → m < length (chip_at r.net c).memories → memory_in memories c m ≡ start_memory p r inside c m
-
-pub none_begun : (p : Parts) (r : Results) (inside : NodeId → Bool) (memories : List (List MemoryMarks)) → AreMemoryTables r memories → FirstMemories p r inside 0 memories
-none_begun p r inside memories tables = record { tables = tables; started = λ c m low. absurd (omega (arith, low)) }
 
 -- ## The start
 
@@ -219,11 +210,6 @@ all_started p r inside count chips whole first = (
       first.started c n (let here : c < length r.net = net_chip_low r.net c n low in omega (arith, here, whole, first.tables.count)) low free,
 )
 
-pub all_begun : (p : Parts) (r : Results) (inside : NodeId → Bool) (count : ℕ) (memories : List (List MemoryMarks)) → length memories ≤ count → FirstMemories p r inside count memories
-    → MemoriesHaveStarted p r inside memories
-all_begun p r inside count memories whole first c m low =
-    first.started c m (let here : c < length r.net = memory_chip_low r.net c m low in omega (arith, here, whole, first.tables.count)) low
-
 -- one more net of a chip has started
 module _ (r : Results) (inside : NodeId → Bool) (c : ℕ) (k : ℕ) where
   pub net_started : (s new : ChipState Mark) → NetsHaveStarted r inside c k s → (kept : Bool) → kept ≡ is_kept r c k
@@ -253,13 +239,6 @@ module _ (r : Results) (inside : NodeId → Bool) (c : ℕ) (k : ℕ) where
 pub free_of : (o : Option EmuGate) (gated : Bool) → gated ≡ is_some o → gated ≡ false → o ≡ None
 free_of None gated is none = refl
 free_of (Some gate) gated is none = no (sym none ∙ is)
-
--- a memory of a design has few write ports
-pub few_writes : (memory : Memory) → memory_fits memory ≡ true → length memory.writes ≤ 4294967295
-few_writes memory fits =
-    let ports = left _ _ (left _ _ fits) in
-    let few : length memory.writes + length memory.reads ≤ 16 = leb-true (length memory.writes + length memory.reads) 16 (right _ _ ports) in
-    omega (arith, few)
 
 -- the write nodes of a memory, one after the other
 one_there : {X : Type 0} (xs : List X) (k : ℕ) → k < length xs → (x : X) × (slice_get xs k ≡ Some x)
@@ -310,14 +289,6 @@ module _ (of : MemId) (memory : Memory) where
 
 -- ## Nets that gates drive, one gate after the other
 
-or_false_is : (b : Bool) → (b || false) ≡ b
-or_false_is true = refl
-or_false_is false = refl
-
-or_assoc_is : (a b d : Bool) → ((a || b) || d) ≡ (a || (b || d))
-or_assoc_is true b d = refl
-or_assoc_is false b d = refl
-
 one_found : (gate : EmuGate) (n : ℕ) → is_some (find (drives n) (gate ∷ [])) ≡ drives n gate
 one_found gate n = go (drives n gate) refl
   where
@@ -344,14 +315,6 @@ told_here gate now low = one_told (gate ∷ []) 0 gate refl now now (none_told n
 
 pub told_far : (gate : EmuGate) (now : List Bool) → length now ≤ gate.output.place → OutputsTold (gate ∷ []) now now
 told_far gate now high = one_far (gate ∷ []) 0 gate refl now now (none_told now) high
-
-pub gated_is : (chip : Chip) (old new : List Bool) → OutputsTold chip.gates old new → length old ≡ chip.nets → ((n : ℕ) → get_or old n false ≡ false) → AreGated chip new
-gated_is chip old new told size none =
-    record {
-      count = told.count ∙ size;
-      tells = λ n low.
-          told.tells n (omega (arith, low, size)) ∙ ap (λ b. b || is_some (gate_of chip n)) (none n);
-    }
 
 -- ## Rows of memories
 

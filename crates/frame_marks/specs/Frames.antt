@@ -26,6 +26,7 @@ pub record FrameState : Type 0 where
   pub memories : List (List MemoryMarks)
   pub carried : List Mark
 
+-- these parts, put together
 abbrev pub frame_state : Parts → Results → List Wire → List (ChipState Mark) → List (List MemoryMarks) → List Mark → FrameState
 frame_state p r wires chips memories carried =
     record { design = p; results = r; wires = wires; chips = chips; memories = memories; carried = carried }

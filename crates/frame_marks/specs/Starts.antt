@@ -23,13 +23,15 @@ pub record AreGated (chip : Chip) (gated : List Bool) : Type 0 where
 -- the same of some gates, besides what was told
 pub record OutputsTold (gates : List EmuGate) (old new : List Bool) : Type 0 where
   pub count : length new ≡ length old
-  pub tells : (n : ℕ) → n < length old → get_or new n false ≡ (get_or old n false || is_some (find (λ gate. is_chip_net n gate.output) gates))
+  pub tells : (n : ℕ) → n < length old
+      → get_or new n false ≡ (get_or old n false || is_some (find (λ gate. is_chip_net n gate.output) gates))
 
--- both tables for each chip
+-- for each chip which of its nets are kept
 pub record AllKept (r : Results) (kept : List (List Bool)) : Type 0 where
   pub count : length kept ≡ length r.net
   pub each : (c : ℕ) → c < length r.net → AreKept r c (get_or kept c [])
 
+-- and which gates drive
 pub record AllGated (r : Results) (gated : List (List Bool)) : Type 0 where
   pub count : length gated ≡ length r.net
   pub each : (c : ℕ) → c < length r.net → AreGated (chip_at r.net c) (get_or gated c [])
@@ -38,13 +40,15 @@ pub record AllGated (r : Results) (gated : List (List Bool)) : Type 0 where
 abbrev pub start_mark : Bool → Mark
 start_mark kept = if kept then only_before else no_mark
 
+-- the same, widened: what stands on net `n` of chip `c`
 abbrev pub first_mark : Results → (NodeId → Bool) → ℕ → ℕ → Mark
 first_mark r inside c n = widened inside (subject r c n) (start_mark (is_kept r c n))
 
 -- the nets of a chip that no gate drives have them
 abbrev pub ChipHasStarted : Results → (NodeId → Bool) → ℕ → ChipState Mark → Type 0
 ChipHasStarted r inside c s =
-    (n : ℕ) → n < (chip_at r.net c).nets → gate_of (chip_at r.net c) n ≡ None → value_on no_mark s.pass.values n ≡ first_mark r inside c n
+    (n : ℕ) → n < (chip_at r.net c).nets → gate_of (chip_at r.net c) n ≡ None
+    → value_on no_mark s.pass.values n ≡ first_mark r inside c n
 
 -- the same of the first nets of a chip
 abbrev pub NetsHaveStarted : Results → (NodeId → Bool) → ℕ → ℕ → ChipState Mark → Type 0
@@ -61,9 +65,12 @@ abbrev pub start_memory : Parts → Results → (NodeId → Bool) → ℕ → �
 start_memory p r inside c m =
     record { standing = count_by (λ a. not (inside a)) (writes_of p r c m); broken = false; wrote = false }
 
+-- each memory of a chip does
 abbrev pub RowHasStarted : Parts → Results → (NodeId → Bool) → ℕ → List MemoryMarks → Type 0
-RowHasStarted p r inside c row = (m : ℕ) (memory : MemoryMarks) → slice_get row m ≡ Some memory → memory ≡ start_memory p r inside c m
+RowHasStarted p r inside c row =
+    (m : ℕ) (memory : MemoryMarks) → slice_get row m ≡ Some memory → memory ≡ start_memory p r inside c m
 
+-- and each memory of all chips
 abbrev pub MemoriesHaveStarted : Parts → Results → (NodeId → Bool) → List (List MemoryMarks) → Type 0
 MemoriesHaveStarted p r inside memories =
     (c m : ℕ) → m < length (chip_at r.net c).memories → memory_in memories c m ≡ start_memory p r inside c m

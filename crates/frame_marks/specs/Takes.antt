@@ -46,12 +46,13 @@ AreMemories r given = All (λ g. g.place < length (chip_at r.net g.chip.place).m
 
 -- ## Nets
 
--- a list gives also what an action gives to nets, and what some do of which the first to give anything counts
+-- a list gives also what an action gives to nets
 abbrev pub GivesOne : FrameState → Action → List (Given Mark) → List (Given Mark) → Type 0
 GivesOne f action before after =
     (inside : NodeId → Bool) (s : MarkState) → IsStart inside s f
     → HasMore (action_mark f.design f.results f.wires inside s action) before after
 
+-- a list gives just what some actions give to nets, of which the first to give anything counts
 abbrev pub GivesAll : FrameState → List Action → List (Given Mark) → Type 0
 GivesAll f actions given =
     (inside : NodeId → Bool) (s : MarkState) → IsStart inside s f
@@ -72,7 +73,9 @@ abbrev pub IsReadMark : FrameState → ℕ → ℕ → ℕ → Mark → Type 0
 IsReadMark f c m k mark =
     (inside : NodeId → Bool) (s : MarkState) (port : EmuRead) → IsStart inside s f
     → read_port f.results.net c m k ≡ Some port
-    → mark ≡ read_mark s (clock_of_read f.design f.results c m k) (length (writes_of f.design f.results c m)) c m (net_marks f.design f.results inside s c port.address)
+    → mark
+    ≡ read_mark s (clock_of_read f.design f.results c m k) (length (writes_of f.design f.results c m)) c m
+    (net_marks f.design f.results inside s c port.address)
 
 -- ## Memories
 
@@ -85,21 +88,23 @@ after_write f inside s c m k =
       wrote = true;
     }
 
--- a write port counts, and what stands after its use
+-- it is told whether the use of a write port counts
 abbrev pub IsCounted : FrameState → ℕ → ℕ → ℕ → Bool → Type 0
 IsCounted f c m k counts =
     (inside : NodeId → Bool) (s : MarkState) → IsStart inside s f → counts ≡ write_counts f.design f.results inside s c m k
 
+-- and how far the writes of its memory stand afterwards
 abbrev pub IsAfterWrite : FrameState → ℕ → ℕ → ℕ → MemoryMarks → Type 0
 IsAfterWrite f c m k marks =
     (inside : NodeId → Bool) (s : MarkState) → IsStart inside s f → marks ≡ after_write f inside s c m k
 
--- a list gives also what an action makes of memories, and what some do of which the first counts
+-- a list gives also what an action makes of memories
 abbrev pub WritesOne : FrameState → Action → List (Given MemoryMarks) → List (Given MemoryMarks) → Type 0
 WritesOne f action before after =
     (inside : NodeId → Bool) (s : MarkState) → IsStart inside s f
     → HasMore (λ c m. option_map (after_write f inside s c m) (port_written c m action)) before after
 
+-- a list gives just what some actions make of memories, of which the first counts
 abbrev pub WritesAll : FrameState → List Action → List (Given MemoryMarks) → Type 0
 WritesAll f actions given =
     (inside : NodeId → Bool) (s : MarkState) → IsStart inside s f
@@ -112,15 +117,17 @@ HaveWritten given before after =
 
 -- ## Wires
 
--- wires carry what an action sends, and what some do of which the first counts
+-- each wire carries what it is given, if it is given anything, and otherwise what it carried
 abbrev pub IsCarrying : (ℕ → Option Mark) → List Mark → List Mark → Type 0
 IsCarrying given before after = (w : ℕ) → get_or after w no_mark ≡ unwrap_or (given w) (get_or before w no_mark)
 
+-- wires are given what an action sends, where all nets have the marks of a state
 abbrev pub SendsOne : Parts → Results → List Wire → List (ChipState Mark) → Action → List Mark → List Mark → Type 0
 SendsOne p r wires chips action before after =
     (inside : NodeId → Bool) (s : MarkState) → HoldAll p r inside s chips
     → IsCarrying (action_carried_mark p r wires inside s action) before after
 
+-- the same for some actions, of which the first counts
 abbrev pub SendsAll : Parts → Results → List Wire → List (ChipState Mark) → List Action → List Mark → List Mark → Type 0
 SendsAll p r wires chips actions before after =
     (inside : NodeId → Bool) (s : MarkState) → HoldAll p r inside s chips
