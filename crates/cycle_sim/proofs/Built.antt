@@ -4,6 +4,7 @@ use Rattle.std.specs.Prelude.{Some, slice_get}
 use Rattle.id_arena.specs.declared.wire.Wire.{Wire}
 use Rattle.std.specs.Prelude.{List}
 use Rattle.emu_machine.specs.declared.netlist.Chip.{Chip}
+use Rattle.gate_cycles.specs.Gates.{IsDriven}
 use Rattle.emu_machine.specs.Building.{IsBuilt, IsChip}
 use Rattle.emu_machine.specs.Netlist.{chip_at, net_drivers, IsOnCycle}
 use Rattle.emu_machine.specs.Results.{Results}
@@ -30,3 +31,12 @@ runnable r wires nets built rules =
           memories = formed.memories;
           no_cycle = λ k cycle. rules.no_cycle c k (subst (λ (h : Chip). IsOnCycle h k) (sym here) cycle);
         }
+
+-- each of its nets has one driver
+pub all_driven : (r : Results) → IsBuilt r.net → (c : ℕ) (chip : Chip) → slice_get r.net c ≡ Some chip → IsDriven chip
+all_driven r built c chip at =
+    let here : chip_at r.net c ≡ chip = chip_is r.net c chip at in
+    record {
+      formed = built.formed.each c chip at;
+      driven = λ n low. subst (λ (h : Chip). net_drivers h n ≡ 1) here (built.netlist c n (subst (λ (h : Chip). n < h.nets) (sym here) low));
+    }

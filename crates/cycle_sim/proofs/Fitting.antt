@@ -1,8 +1,7 @@
 -- What actions name, where they fit.
-use Rattle.std.proofs.Common.{◌≡◌, ◌<◌, ℕ, suc, ◌+◌, Bool, true, List, [], ◌∷◌, get_or, length, refl, sym, subst, arith}
-use Rattle.std.specs.Prelude.{nat_lt, is_some, Option, Some, None, slice_get, flat_map, map, All, Contains}
-use Rattle.std.specs.List.{enumerate_from, filter}
-use Rattle.std.proofs.lemmas.List.Elements.{All-nil, All-append, All-map, All-filter, Contains-get_or}
+use Rattle.std.proofs.Common.{◌≡◌, ◌<◌, ℕ, Bool, true, List, [], get_or, length, refl, sym, subst, arith}
+use Rattle.std.specs.Prelude.{nat_lt, is_some, Option, Some, None, slice_get, All}
+use Rattle.std.proofs.lemmas.List.Elements.{Contains-get_or}
 use Rattle.id_arena.specs.declared.keys.ChipNetId.{ChipNetId}
 use Rattle.id_arena.specs.declared.keys.RegId.{RegId}
 use Rattle.id_arena.specs.declared.keys.WireId.{WireId}
@@ -13,11 +12,12 @@ use Rattle.emu_machine.specs.declared.schedule.Action.{Action}
 use Rattle.emu_machine.specs.declared.schedule.Action.TheVariants.{Input, Load, Send, Write, Read}
 use Rattle.emu_machine.specs.declared.schedule.Slot.{Slot}
 use Rattle.emu_machine.specs.Netlist.{chip_at}
-use Rattle.emu_machine.specs.State.{read_port, write_port, frame_slots, actions_of, Timed, timed, timed_actions, is_last, ending}
+use Rattle.emu_machine.specs.State.{read_port, write_port, frame_slots, actions_of, ending}
 use Rattle.emu_machine.specs.Acceptance.{register_of, is_hold, is_loaded, send_fits, action_fits}
 use Rattle.facts.proofs.Tests.{no, left, right, below}
 use Rattle.cycle_sim.specs.Standing.{IsRunnable, IsRegister, SlotsStand, CanTake, CanSend, CanStore}
 use Rattle.cycle_sim.specs.Tables.{HaveSizes}
+use Rattle.slot_endings.proofs.Timed.{all_ending}
 use Rattle.cycle_sim.proofs.Chips.{chip_here, net_chip_low}
 
 some_there : {X : Type 0} (o : Option X) → is_some o ≡ true → (x : X) × (o ≡ Some x)
@@ -82,24 +82,6 @@ module _ (r : Results) (wires : List Wire) (nets : ℕ) where
   can_send shown sizes (Read chip mem port) can = tt
 
 -- ## The actions that end in a slot
-
--- all actions of some slots, with their numbers from one on
-abbrev pub timed_from : ℕ → List Slot → List Timed
-timed_from k slots = flat_map (λ (t, slot). map (timed t) slot.actions) (enumerate_from k slots)
-
-module _ (P : Action → Type 0) where
-  all_timed : (k : ℕ) (slots : List Slot) → ((t : ℕ) (a : Action) → Contains (actions_of slots t) a → P a) → All (λ a. P a.action) (timed_from k slots)
-  all_timed k [] h = All-nil (λ (a : Timed). P a.action)
-  all_timed k (slot ∷ slots) h =
-      All-append (λ (a : Timed). P a.action) (map (timed k) slot.actions) (timed_from (k + 1) slots)
-      (All-map (λ (a : Timed). P a.action) (timed k) slot.actions (λ j d low. h 0 (get_or slot.actions j d) (Contains-get_or slot.actions j d low)))
-      (all_timed (k + 1) slots (λ t. h (suc t)))
-
-  -- what holds of all actions of a frame holds of those that end in a slot
-  pub all_ending : (wires : List Wire) (slots : List Slot) (t : ℕ) → ((u : ℕ) (a : Action) → Contains (actions_of slots u) a → P a) → All P (ending wires slots t)
-  all_ending wires slots t h =
-      All-map P (λ (a : Timed). a.action) (filter (is_last wires t) (timed_actions slots))
-      (All-filter (is_last wires t) (λ (a : Timed). P a.action) (timed_actions slots) (all_timed 0 slots h))
 
 pub ending_taken : (r : Results) (wires : List Wire) (nets : ℕ) (slots : List Slot) (t : ℕ) → SlotsStand r wires nets slots → All (CanTake r wires nets) (ending wires slots t)
 ending_taken r wires nets slots t stand =

@@ -1,10 +1,9 @@
 pub mod Rows
 pub mod Counting
-pub mod Drivers
-pub mod Passing
 pub mod Chips
+pub mod Sources
+pub mod Levels
 pub mod Fitting
-pub mod Ending
 pub mod Taking
 pub mod Ports
 pub mod Built
@@ -12,7 +11,7 @@ pub mod Showing
 pub mod Storing
 pub mod Sending
 pub mod SlotSteps
+pub mod CatchingUp
 pub mod UnderWay
 pub mod Loads
 pub mod JudgedResults
-pub mod Sources

@@ -29,8 +29,9 @@ use Rattle.emu_machine.specs.Origins.{same_subject, have_subjects, is_net_subjec
 use Rattle.facts.proofs.Lists.{no}
 use Rattle.facts.proofs.Places.{any_found, at_zip, zip_at, at_same_place}
 use Rattle.facts.proofs.Tests.{left, right, same_number, number_same, not_true}
-use Rattle.cycle_sim.specs.Tables.{tables, cell, word_in, state_of, HaveSizes, HaveWords}
-use Rattle.cycle_sim.specs.Loading.{FreeAreZero, CanLoad, told, kept_by_port, kept_by_memory, kept_as_q, Gains, IsHeld, AreHeld, IsCopy, MemoriesLoad, FirstCopied, AreCopied}
+use Rattle.cycle_sim.specs.Values.{cell}
+use Rattle.cycle_sim.specs.Tables.{tables, word_in, state_of, HaveSizes, HaveWords}
+use Rattle.cycle_sim.specs.Loading.{FreeAreZero, CanLoad, told, kept_by_port, kept_by_memory, kept_as_q, Gains, IsHeld, AreHeld, MemoriesLoad, FirstCopied, AreCopied}
 use Rattle.cycle_sim.proofs.Counting.{is_other}
 use Rattle.cycle_sim.proofs.Chips.{chip_here}
 
@@ -69,9 +70,6 @@ both false true value old mid new e f = e
 both false false value old mid new e f = e ∙ f
 
 module _ (entry : ChipMap) (values : List Bool) where
-  pub none_gain : {X : Type 0} (test : ℕ → X → Bool) (xs : List X) (held : List Bool) → Gains (λ n. list_any (test n) (take 0 xs)) entry values held held
-  none_gain test xs held = record { size = refl; each = λ n. refl }
-
   pub nobody_gains : (held : List Bool) → Gains (λ n. false) entry values held held
   nobody_gains held = record { size = refl; each = λ n. refl }
 
@@ -151,66 +149,6 @@ module _ (r : Results) (values : List Bool) where
           (subst (λ (m : ChipMap). IsHeld one m values row) maps (subst (λ (o : Chip). IsHeld o entry values row) chips is))
 
 -- ## Words
-
-pub none_copied : (v : Valuation) (m : ℕ) → IsCopy v m 0 []
-none_copied v m = record { size = refl; each = λ a low. absurd (omega (arith, low)) }
-
-pub one_copied : (v : Valuation) (m k : ℕ) (words : List ℕ) (word : ℕ) → IsCopy v m k words → word ≡ v.word m k
-    → (after : List ℕ) → after ≡ words ++ word ∷ [] → IsCopy v m (k + 1) after
-one_copied v m k words word h is after push =
-    subst (IsCopy v m (k + 1)) (sym push)
-    (record {
-      size = (let size : length words ≡ k = h.size in let more : length (words ++ word ∷ []) ≡ length words + 1 = length-append words (word ∷ []) in omega arith);
-      each = λ a low. go a low (cases_eq a k);
-    })
-  where
-    go : (a : ℕ) → a < k + 1 → (a ≡ k) ⊎ (a ≡ k → ⊥) → get_or (words ++ word ∷ []) a 0 ≡ v.word m a
-    go a low (inl same) = get_or_push words word 0 a (h.size ∙ sym same) ∙ is ∙ ap (v.word m) (sym same)
-    go a low (inr other) =
-        let before : a < k = omega (arith, low, other) in
-        get_or_append_left words (word ∷ []) 0 a (omega (arith, before, h.size)) ∙ h.each a before
-
-pub one_memory : (v : Valuation) (chip : Chip) (entry : ChipMap) (m : ℕ) (memory : EmuMemory) (of : MemMap) → slice_get chip.memories m ≡ Some memory → slice_get entry.memories m ≡ Some of
-    → (words : List (List ℕ)) (row : List ℕ) → FirstCopied v chip entry m words → IsCopy v of.of.place (2 ^ memory.address_bits) row
-    → (after : List (List ℕ)) → after ≡ words ++ row ∷ [] → FirstCopied v chip entry (m + 1) after
-one_memory v chip entry m memory of at at_of words row h is after push =
-    subst (FirstCopied v chip entry (m + 1)) (sym push)
-    (record {
-      size = (let size : length words ≡ m = h.size in let more : length (words ++ row ∷ []) ≡ length words + 1 = length-append words (row ∷ []) in omega arith);
-      each = λ k one one_of low at_one at_map. go k one one_of low at_one at_map (cases_eq k m);
-    })
-  where
-    go : (k : ℕ) (one : EmuMemory) (one_of : MemMap) → k < m + 1 → slice_get chip.memories k ≡ Some one → slice_get entry.memories k ≡ Some one_of
-        → (k ≡ m) ⊎ (k ≡ m → ⊥) → IsCopy v one_of.of.place (2 ^ one.address_bits) (get_or (words ++ row ∷ []) k [])
-    go k one one_of low at_one at_map (inr other) =
-        let before : k < m = omega (arith, low, other) in
-        subst (IsCopy v one_of.of.place (2 ^ one.address_bits)) (sym (get_or_append_left words (row ∷ []) [] k (omega (arith, before, h.size)))) (h.each k one one_of before at_one at_map)
-    go k one one_of low at_one at_map (inl same) =
-        let memories : memory ≡ one = same_Some memory one (sym at ∙ ap (slice_get chip.memories) (sym same) ∙ at_one) in
-        let maps : of ≡ one_of = same_Some of one_of (sym at_of ∙ ap (slice_get entry.memories) (sym same) ∙ at_map) in
-        subst (IsCopy v one_of.of.place (2 ^ one.address_bits)) (sym (get_or_push words row [] k (h.size ∙ sym same)))
-        (subst (λ (o : MemMap). IsCopy v o.of.place (2 ^ one.address_bits) row) maps (subst (λ (e : EmuMemory). IsCopy v of.of.place (2 ^ e.address_bits) row) memories is))
-
-pub one_chip : (v : Valuation) (r : Results) (c : ℕ) (chip : Chip) (entry : ChipMap) → slice_get r.net c ≡ Some chip → slice_get r.map.chips c ≡ Some entry
-    → (words : List (List (List ℕ))) (rows : List (List ℕ)) → AreCopied v r c words → FirstCopied v chip entry (length chip.memories) rows
-    → (after : List (List (List ℕ))) → after ≡ words ++ rows ∷ [] → AreCopied v r (c + 1) after
-one_chip v r c chip entry at at_e words rows h is after push =
-    subst (AreCopied v r (c + 1)) (sym push)
-    (record {
-      size = (let size : length words ≡ c = h.size in let more : length (words ++ rows ∷ []) ≡ length words + 1 = length-append words (rows ∷ []) in omega arith);
-      each = λ d one map_one low at_one at_map. go d one map_one low at_one at_map (cases_eq d c);
-    })
-  where
-    go : (d : ℕ) (one : Chip) (map_one : ChipMap) → d < c + 1 → slice_get r.net d ≡ Some one → slice_get r.map.chips d ≡ Some map_one
-        → (d ≡ c) ⊎ (d ≡ c → ⊥) → FirstCopied v one map_one (length one.memories) (get_or (words ++ rows ∷ []) d [])
-    go d one map_one low at_one at_map (inr other) =
-        let before : d < c = omega (arith, low, other) in
-        subst (FirstCopied v one map_one (length one.memories)) (sym (get_or_append_left words (rows ∷ []) [] d (omega (arith, before, h.size)))) (h.each d one map_one before at_one at_map)
-    go d one map_one low at_one at_map (inl same) =
-        let chips : chip ≡ one = same_Some chip one (sym at ∙ ap (slice_get r.net) (sym same) ∙ at_one) in
-        let maps : entry ≡ map_one = same_Some entry map_one (sym at_e ∙ ap (slice_get r.map.chips) (sym same) ∙ at_map) in
-        subst (FirstCopied v one map_one (length one.memories)) (sym (get_or_push words rows [] d (h.size ∙ sym same)))
-        (subst (λ (e : ChipMap). FirstCopied v one e (length one.memories) rows) maps (subst (λ (o : Chip). FirstCopied v o entry (length o.memories) rows) chips is))
 
 -- ## What is kept stands for nets
 

@@ -1,26 +1,14 @@
 -- What actions put on wires.
-use Rattle.std.proofs.Common.{◌≡◌, ◌+◌, ℕ, Bool, true, false, List, [], ◌∷◌, drop, get_or, refl, sym, ap, subst, ◌∙◌}
-use Rattle.std.specs.Prelude.{Some, None, slice_get, unwrap_or}
+use Rattle.std.proofs.Common.{◌≡◌, ◌+◌, ℕ, Bool, false, List, [], ◌∷◌, drop, get_or, refl, sym, ap, subst, ◌∙◌}
+use Rattle.std.specs.Prelude.{◌&&◌, Some, slice_get, unwrap_or}
 use Rattle.std.specs.List.{list_all}
 use Rattle.id_arena.specs.declared.wire.Wire.{Wire}
 use Rattle.emu_machine.specs.Results.{Results}
 use Rattle.emu_machine.specs.declared.schedule.Action.{Action}
-use Rattle.emu_machine.specs.declared.schedule.Action.TheVariants.{Input, Load, Send, Write, Read}
-use Rattle.emu_machine.specs.State.{State, action_carried, first_given}
-use Rattle.facts.proofs.Tests.{no}
+use Rattle.emu_machine.specs.State.{action_carried, first_given}
 use Rattle.cycle_sim.specs.Tables.{state_of}
 use Rattle.cycle_sim.specs.Takes.{HasSentOne, HasSent, leaves_all}
-use Rattle.cycle_sim.proofs.Taking.{first_of_two, split_at}
-
--- actions that leave all as it is put nothing on a wire
-pub nothing_sent : (r : Results) (wires : List Wire) (x : State) (actions : List Action) → list_all leaves_all actions ≡ true → (w : ℕ)
-    → first_given (λ a. action_carried r.net wires x a w) actions ≡ None
-nothing_sent r wires x [] none w = refl
-nothing_sent r wires x (Input chip register net ∷ actions) none w = nothing_sent r wires x actions none w
-nothing_sent r wires x (Load chip register ∷ actions) none w = nothing_sent r wires x actions none w
-nothing_sent r wires x (Send wire net register ∷ actions) none w = no none
-nothing_sent r wires x (Write chip mem port ∷ actions) none w = no none
-nothing_sent r wires x (Read chip mem port ∷ actions) none w = nothing_sent r wires x actions none w
+use Rattle.cycle_sim.proofs.Taking.{first_of_two, not_both, split_at}
 
 module _ (r : Results) (wires : List Wire) (shown : List (List Bool)) where
   pub nothing_yet : (carried : List Bool) → HasSent r wires shown [] carried carried
@@ -35,8 +23,8 @@ module _ (r : Results) (wires : List Wire) (shown : List (List Bool)) where
     where
       step : HasSent r wires shown (action ∷ drop left actions) before after
       step t all w =
-          one t all w
-          ∙ ap (unwrap_or (action_carried r.net wires (state_of t) action w)) (rest t all w)
+          one t (λ e. all (ap (λ b. b && list_all leaves_all (drop left actions)) e)) w
+          ∙ ap (unwrap_or (action_carried r.net wires (state_of t) action w)) (rest t (λ e. all (not_both (leaves_all action) (list_all leaves_all (drop left actions)) e)) w)
           ∙ first_of_two (action_carried r.net wires (state_of t) action w)
           (first_given (λ a. action_carried r.net wires (state_of t) a w) (drop left actions))
           (get_or before w false)

@@ -1,5 +1,5 @@
 -- The numbers that nets show, and nets that show a word.
-use Rattle.std.proofs.Common.{◌≡◌, ◌<◌, ◌≤◌, ◌+◌, ◌*◌, ◌^◌, ℕ, suc, Bool, true, false, not, cond, List, [], ◌∷◌, drop, set, length, get_or, refl, sym, ap, subst, ◌∙◌, inl, inr, arith, pow-suc, if◌then◌else◌}
+use Rattle.std.proofs.Common.{◌≡◌, ◌<◌, ◌≤◌, ◌+◌, ◌^◌, ℕ, suc, Bool, true, false, not, cond, List, [], ◌∷◌, drop, set, length, get_or, refl, sym, ap, subst, ◌∙◌, inl, inr, arith, pow-suc, if◌then◌else◌}
 use Rattle.std.specs.Prelude.{◌⊎◌, nat_lt, Option, Some, None, position, option_map, unwrap_or}
 use Rattle.std.specs.List.{position_or_len}
 use Rattle.std.proofs.lemmas.Bool.{cases_eq}
@@ -8,7 +8,7 @@ use Rattle.std.proofs.lemmas.List.{drop_all, drop_more, length-map, length-drop,
 use Rattle.std.proofs.Math.Pow.{pow_mono}
 use Rattle.facts.proofs.Tests.{same_number}
 use Rattle.id_arena.specs.declared.keys.ChipNetId.{ChipNetId}
-use Rattle.design_core.specs.Operation.{bit, bit_of, number}
+use Rattle.design_core.specs.Operation.{bit_of, number}
 use Rattle.emu_machine.specs.Netlist.{is_chip_net}
 use Rattle.cycle_sim.specs.Values.{values_in}
 use Rattle.cycle_sim.specs.Takes.{ShowWord}
@@ -32,15 +32,6 @@ module _ (table : List Bool) where
       let left : length (drop place bits) ≤ 127 = omega (arith, length-drop place bits) in
       let low : number (values_in table (drop place bits)) < 2 ^ length (drop place bits) = shown_low (drop place bits) in
       let power : 2 ^ length (drop place bits) ≤ 2 ^ 127 = pow_mono left in
-      omega arith
-
-  pub one_bit : (bits : List ChipNetId) (place before : ℕ) → place + 1 ≡ before → place < length bits
-      → 2 * number (values_in table (drop before bits)) + bit (get_or table (get_or bits place (record { place = 0 })).place false) ≡ number (values_in table (drop place bits))
-  one_bit bits place before next low =
-      let front : number (values_in table (drop place bits)) ≡ bit (get_or table (get_or bits place (record { place = 0 })).place false) + 2 * number (values_in table (drop (place + 1) bits)) =
-      ap (λ ns. number (values_in table ns)) (drop_more bits place (record { place = 0 }) low) in
-      let same : number (values_in table (drop (place + 1) bits)) ≡ number (values_in table (drop before bits)) =
-      ap (λ (k : ℕ). number (values_in table (drop k bits))) next in
       omega arith
 
 -- ## Words

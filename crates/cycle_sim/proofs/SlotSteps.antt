@@ -12,7 +12,8 @@ use Rattle.emu_machine.specs.declared.schedule.Slot.{Slot}
 use Rattle.emu_machine.specs.Results.{Results}
 use Rattle.emu_machine.specs.State.{State, action_value, action_word, action_carried, first_given, actions_of, ending, slot_step, present}
 use Rattle.facts.proofs.Tests.{same_number}
-use Rattle.cycle_sim.specs.Tables.{Tables, cell, word_in, state_of, HasPut}
+use Rattle.cycle_sim.specs.Values.{cell}
+use Rattle.cycle_sim.specs.Tables.{Tables, word_in, state_of, HasPut}
 use Rattle.cycle_sim.specs.Takes.{HasGiven, AreStored, IsCarrying}
 use Rattle.cycle_sim.proofs.Counting.{is_other}
 use Rattle.cycle_sim.proofs.Taking.{started}

@@ -12,26 +12,16 @@ use Rattle.emu_machine.specs.declared.netlist.EmuWrite.{EmuWrite}
 use Rattle.emu_machine.specs.Results.{Results}
 use Rattle.emu_machine.specs.Netlist.{chip_at}
 use Rattle.emu_machine.specs.declared.schedule.Action.{Action}
-use Rattle.emu_machine.specs.declared.schedule.Action.TheVariants.{Input, Load, Send, Write, Read}
+use Rattle.emu_machine.specs.declared.schedule.Action.TheVariants.{Write}
 use Rattle.emu_machine.specs.State.{State, net_value, net_number, write_port, stored_word, action_word, first_given}
-use Rattle.facts.proofs.Tests.{no, same_number}
+use Rattle.facts.proofs.Tests.{same_number}
 use Rattle.cycle_sim.specs.Standing.{IsThere}
 use Rattle.cycle_sim.specs.Values.{value_in, values_in}
 use Rattle.cycle_sim.specs.Tables.{Tables, word_in, state_of, HaveWords, AllShown}
 use Rattle.cycle_sim.specs.Takes.{AreStored, HasStoredOne, HasStored, with_word, leaves_all}
 use Rattle.cycle_sim.proofs.Counting.{is_other}
 use Rattle.cycle_sim.proofs.Chips.{net_is}
-use Rattle.cycle_sim.proofs.Taking.{same_values, split_at}
-
--- actions that leave all as it is put nothing in a word
-pub nothing_stored : (r : Results) (x : State) (actions : List Action) → list_all leaves_all actions ≡ true → (c m a : ℕ)
-    → first_given (λ action. action_word r.net x action c m a) actions ≡ None
-nothing_stored r x [] none c m a = refl
-nothing_stored r x (Input chip register net ∷ actions) none c m a = nothing_stored r x actions none c m a
-nothing_stored r x (Load chip register ∷ actions) none c m a = nothing_stored r x actions none c m a
-nothing_stored r x (Send wire net register ∷ actions) none c m a = no none
-nothing_stored r x (Write chip mem port ∷ actions) none c m a = no none
-nothing_stored r x (Read chip mem port ∷ actions) none c m a = nothing_stored r x actions none c m a
+use Rattle.cycle_sim.proofs.Taking.{not_both, same_values, split_at}
 
 -- ## Several actions
 
@@ -52,8 +42,8 @@ module _ (r : Results) (shown : List (List Bool)) where
     where
       step : HasStored r shown (action ∷ drop left actions) before after
       step t all c m a =
-          one t all c m a
-          ∙ ap (unwrap_or (action_word r.net (state_of t) action c m a)) (rest t all c m a)
+          one t (λ e. all (ap (λ b. b && list_all leaves_all (drop left actions)) e)) c m a
+          ∙ ap (unwrap_or (action_word r.net (state_of t) action c m a)) (rest t (λ e. all (not_both (leaves_all action) (list_all leaves_all (drop left actions)) e)) c m a)
           ∙ first_of_two (action_word r.net (state_of t) action c m a)
           (first_given (λ one. action_word r.net (state_of t) one c m a) (drop left actions))
           (word_in before c m a)
@@ -211,7 +201,7 @@ module _ (r : Results) (shown : List (List Bool)) (chip : ChipId) (mem : MemId) 
       where
         go : HasStoredOne r shown (Write chip mem k) words words
         go t all c m a =
-            sym (ap (λ o. unwrap_or o (word_in words c m a)) (gives t all c m a
+            sym (ap (λ o. unwrap_or o (word_in words c m a)) (gives t (all refl) c m a
             ∙ ap (λ b. if b then word_at chip.place mem.place (number (values_in table port.address)) (number (values_in table port.feed)) c m a else None) (sym on_is ∙ off)))
 
     -- and where it is 1 the word at the address becomes the data
@@ -227,5 +217,5 @@ module _ (r : Results) (shown : List (List Bool)) (chip : ChipId) (mem : MemId) 
             one_put words chip.place mem.place address word low_c low_m low_a c m a
             ∙ ap (λ (n : ℕ). unwrap_or (word_at chip.place mem.place n word c m a) (word_in words c m a)) address_is
             ∙ ap (λ (n : ℕ). unwrap_or (word_at chip.place mem.place (number (values_in table port.address)) n c m a) (word_in words c m a)) word_is
-            ∙ sym (ap (λ o. unwrap_or o (word_in words c m a)) (gives t all c m a
+            ∙ sym (ap (λ o. unwrap_or o (word_in words c m a)) (gives t (all refl) c m a
             ∙ ap (λ b. if b then word_at chip.place mem.place (number (values_in table port.address)) (number (values_in table port.feed)) c m a else None) (sym on_is ∙ up)))

@@ -1,7 +1,8 @@
 -- What actions give to registers.
 use Rattle.std.proofs.Common.{◌≡◌, ◌<◌, ◌+◌, ℕ, Bool, true, false, List, [], ◌∷◌, drop, set, get_or, length, refl, sym, ap, subst, ◌∙◌, inl, inr, if◌then◌else◌}
-use Rattle.std.specs.Prelude.{◌==◌, ◌⊎◌, Option, Some, None, All, slice_get, unwrap_or, option_map, option_and_then, position, IfSome}
-use Rattle.std.specs.Option.{option_or}
+use Rattle.std.specs.Prelude.{◌==◌, ◌&&◌, ◌⊎◌, not, Option, Some, None, All, slice_get, unwrap_or, option_map, option_and_then, position, IfSome}
+use Rattle.std.specs.List.{list_all}
+use Rattle.std.specs.Option.{option_or, option_map_or}
 use Rattle.std.proofs.lemmas.Bool.{cases_eq}
 use Rattle.std.proofs.lemmas.List.Elements.{All-head, All-tail}
 use Rattle.std.proofs.lemmas.List.{length-set, get_or-set_same, get_or-set_other, drop_more}
@@ -23,19 +24,19 @@ use Rattle.emu_machine.specs.Netlist.{chip_at, is_chip_net}
 use Rattle.emu_machine.specs.State.{State, net_value, net_values, net_number, read_port, read_bit, on_register, loaded_value, arriving, action_value, first_given}
 use Rattle.facts.proofs.Tests.{same_number}
 use Rattle.cycle_sim.specs.Standing.{IsRunnable, CanTake, IsThere, RegisterStands}
-use Rattle.cycle_sim.specs.Values.{value_in, values_in}
-use Rattle.cycle_sim.specs.Tables.{Tables, tables, cell, word_in, state_of, HaveSizes, AllShown}
-use Rattle.cycle_sim.specs.Takes.{HasGiven, HasTakenOne, HasTaken, ShowOnChip}
+use Rattle.cycle_sim.specs.Values.{cell, value_in, values_in}
+use Rattle.cycle_sim.specs.Tables.{Tables, tables, word_in, state_of, HaveSizes, AllShown}
+use Rattle.cycle_sim.specs.Takes.{HasGiven, AreServed, HasTakenOne, HasTaken, ShowOnChip, is_direct, takes_no_net}
 use Rattle.cycle_sim.proofs.Counting.{is_other}
 use Rattle.cycle_sim.proofs.Chips.{net_is, chip_low, net_chip_low, low_in, register_stands, q_in}
 
 -- ## One value is put
 
 -- a value for one net of one chip, if there is one
-abbrev given_at : ℕ → ℕ → Option Bool → ℕ → ℕ → Option Bool
+abbrev pub given_at : ℕ → ℕ → Option Bool → ℕ → ℕ → Option Bool
 given_at chip q o c n = if chip == c then (if q == n then o else None) else None
 
-abbrev put_at : List (List Bool) → ℕ → ℕ → Bool → List (List Bool)
+abbrev pub put_at : List (List Bool) → ℕ → ℕ → Bool → List (List Bool)
 put_at held chip q value = set held chip (set (get_or held chip []) q value)
 
 nothing : (a b : Bool) (x : Bool) → x ≡ unwrap_or (if a then (if b then None else None) else None) x
@@ -70,7 +71,7 @@ module _ (held : List (List Bool)) (chip q : ℕ) (value : Bool) (low_c : chip <
       ap (λ r. get_or r n false) (get_or-set_other held chip c row [] other)
       ∙ sym (ap (λ b. unwrap_or (if b then (if q == n then Some value else None) else None) (cell held c n)) (is_other chip c (λ e. other (sym e))))
 
-  put_some : HasGiven (given_at chip q (Some value)) held (put_at held chip q value)
+  pub put_some : HasGiven (given_at chip q (Some value)) held (put_at held chip q value)
   put_some c n = put_in c n (cases_eq c chip)
 
   pub put_sizes : (r : Results) → HaveSizes r held → HaveSizes r (put_at held chip q value)
@@ -98,7 +99,7 @@ module _ (r : Results) (wires : List Wire) (shown : List (List Bool)) (words : L
   abbrev reading : (EmuRegister → Option Bool) → ℕ → Option EmuRegister → Option Bool
   reading gives n o = option_and_then (λ one. if is_chip_net n one.q then gives one else None) o
 
-  on_is : (gives : EmuRegister → Option Bool) (c n : ℕ) → on_register r.net chip number gives c n ≡ given_at chip register.q.place (gives register) c n
+  pub on_is : (gives : EmuRegister → Option Bool) (c n : ℕ) → on_register r.net chip number gives c n ≡ given_at chip register.q.place (gives register) c n
   on_is gives c n = go (cases_eq c chip)
     where
       go : (c ≡ chip) ⊎ (c ≡ chip → ⊥) → on_register r.net chip number gives c n ≡ given_at chip register.q.place (gives register) c n
@@ -172,7 +173,7 @@ module _ (r : Results) (wires : List Wire) (nets : ℕ) (words : List (List (Lis
       load_left gives =
           subst (λ a. HasTakenOne r wires shown words outside carried a held held) (sym is)
           (λ start all. none_put r wires shown words outside carried chip.place number.place register at
-          (λ one. loaded_value (λ m. net_value r.net (started start words outside carried) chip.place m.place) one.d one.enable) held (loads start all None gives))
+          (λ one. loaded_value (λ m. net_value r.net (started start words outside carried) chip.place m.place) one.d one.enable) held (loads start (all refl) None gives))
 
       pub load_done : (value : Bool) → Some value ≡ loaded_value (value_in table) register.d register.enable
           → (after : List (List Bool)) → after ≡ put_at held chip.place register.q.place value → HasTakenOne r wires shown words outside carried action held after
@@ -180,16 +181,27 @@ module _ (r : Results) (wires : List Wire) (nets : ℕ) (words : List (List (Lis
           subst (λ a. HasTakenOne r wires shown words outside carried a held after) (sym is)
           (subst (λ h. HasTakenOne r wires shown words outside carried (Load chip number) held h) (sym put)
           (λ start all. given_put r wires shown words outside carried chip.place number.place register at
-          (λ one. loaded_value (λ m. net_value r.net (started start words outside carried) chip.place m.place) one.d one.enable) held low_chip low_net value (loads start all (Some value) gives)))
+          (λ one. loaded_value (λ m. net_value r.net (started start words outside carried) chip.place m.place) one.d one.enable) held low_chip low_net value (loads start (all refl) (Some value) gives)))
 
   module _ (wire : WireId) (net : ChipNetId) (number : RegId) (ends : Wire) (here : slice_get wires wire.place ≡ Some ends) (register : EmuRegister) (at : slice_get (chip_at r.net ends.to.place).registers number.place ≡ Some register) where
     -- what arrives is what the net shows, or what the wire has carried
-    arrives : net.place < (chip_at r.net ends.from.place).nets → (start : List (List Bool)) → AllShown r start shown
+    arrives : net.place < (chip_at r.net ends.from.place).nets → (start : List (List Bool)) → AreServed r start shown (not (is_direct wires wire.place))
         → (if ends.latency == 1 then value_in (get_or shown ends.from.place []) net else get_or carried wire.place false)
         ≡ arriving r.net (started start words outside carried) ends wire.place net
-    arrives low start all =
-        ap (λ b. if ends.latency == 1 then b else get_or carried wire.place false)
-        (net_is r (tables start words outside carried) shown all ends.from.place net.place (net_chip_low r.net ends.from.place net.place low) low)
+    arrives low start all = go (ends.latency == 1) refl
+      where
+        direct : is_direct wires wire.place ≡ (ends.latency == 1)
+        direct = ap (λ o. option_map_or (λ (e : Wire). e.latency == 1) o false) here
+
+        go : (b : Bool) → (ends.latency == 1) ≡ b
+            → (if ends.latency == 1 then value_in (get_or shown ends.from.place []) net else get_or carried wire.place false)
+            ≡ arriving r.net (started start words outside carried) ends wire.place net
+        go true e =
+            ap (λ b. if ends.latency == 1 then b else get_or carried wire.place false)
+            (net_is r (tables start words outside carried) shown (all (ap not (direct ∙ e))) ends.from.place net.place (net_chip_low r.net ends.from.place net.place low) low)
+        go false e =
+            ap (λ b. if b then value_in (get_or shown ends.from.place []) net else get_or carried wire.place false) e
+            ∙ sym (ap (λ b. if b then net_value r.net (started start words outside carried) ends.from.place net.place else get_or carried wire.place false) e)
 
     -- a net that the action names is there
     net_there : (action : Action) → action ≡ Send wire net number → CanTake r wires nets action → net.place < (chip_at r.net ends.from.place).nets
@@ -273,7 +285,8 @@ module _ (r : Results) (wires : List Wire) (words : List (List (List ℕ))) (out
       (subst (λ h. HasTakenOne r wires shown words outside carried (Read chip mem number_of) held h) (sym show.put) go)
     where
       go : HasTakenOne r wires shown words outside carried (Read chip mem number_of) held (set held chip.place show.row)
-      go start all =
+      go start served =
+          let all : AllShown r start shown = served refl in
           let x : State = started start words outside carried in
           let given : ℕ → ℕ → Option Bool = λ c n. option_and_then (λ one. read_bit r.net x c mem.place one n) (read_port r.net c mem.place number_of) in
           let number_is : address ≡ net_number r.net x chip.place port.address =
@@ -287,6 +300,11 @@ module _ (r : Results) (wires : List Wire) (words : List (List (List ℕ))) (out
           ∙ sym (ap (λ o. unwrap_or (option_and_then (λ one. read_bit r.net x chip.place mem.place one n) o) (cell held chip.place n)) at))
 
 -- ## Several actions
+
+-- where the second of two is false, not both are true
+pub not_both : (a b : Bool) → b ≡ false → (a && b) ≡ false
+not_both true b e = e
+not_both false b e = refl
 
 pub first_of_two : (o p : Option Bool) (x : Bool) → unwrap_or o (unwrap_or p x) ≡ unwrap_or (option_or o p) x
 first_of_two None p x = refl
@@ -312,8 +330,9 @@ module _ (r : Results) (wires : List Wire) (shown : List (List Bool)) (words : L
     where
       step : HasTaken r wires shown words outside carried (action ∷ drop left actions) before after
       step start all c n =
-          one start all c n
-          ∙ ap (unwrap_or (action_value r.net wires (started start words outside carried) action c n)) (rest start all c n)
+          one start (λ e. all (ap (λ b. b && list_all (takes_no_net wires) (drop left actions)) e)) c n
+          ∙ ap (unwrap_or (action_value r.net wires (started start words outside carried) action c n))
+          (rest start (λ e. all (not_both (takes_no_net wires action) (list_all (takes_no_net wires) (drop left actions)) e)) c n)
           ∙ first_of_two (action_value r.net wires (started start words outside carried) action c n)
           (first_given (λ a. action_value r.net wires (started start words outside carried) a c n) (drop left actions))
           (cell before c n)

@@ -1,25 +1,25 @@
 //! The machine, slot by slot and event by event.
 
-ghost use Rattle.std.specs.Prelude.{◌≡◌, ◌<◌, ℕ, false, Some, All, [], IfOk, get_or, length, replicate, slice_get};
-ghost use Rattle.emu_machine.specs.declared.netlist.Chip.{Chip};
+ghost use Rattle.std.specs.Prelude.{◌≡◌, ◌<◌, false, Some, All, [], IfOk, get_or, length, replicate, slice_get};
 ghost use Rattle.emu_machine.specs.declared.netlist.EmuRegister.{EmuRegister};
 ghost use Rattle.emu_machine.specs.Netlist.{chip_at};
 ghost use Rattle.emu_machine.specs.State.{after_frame, frame_slots, net_value, present, slot_step};
-ghost use Rattle.cycle_sim.specs.Standing.{CanRun, ChipStands, HasAddress, IsRegister};
-ghost use Rattle.cycle_sim.specs.Tables.{AllShown, AllStepped, cell, HasPut, HaveSizes, HaveWords, state, state_of};
+ghost use Rattle.cycle_sim.specs.Standing.{CanRun, HasAddress, IsRegister};
+ghost use Rattle.cycle_sim.specs.Tables.{HasPut, HaveSizes, HaveWords, state, state_of};
 
-use crate::endings::all_endings;
+use crate::gates::value_of;
 use crate::loaded::Loaded;
-use crate::parts::chips_of;
-use crate::pass::settle_all;
+use crate::passes::settled_passes;
+use crate::shown::held_at;
 use crate::slots::{Plan, Timetable, do_frame, do_slot_alone};
-use crate::steps::{Step, steps_of};
-use crate::taken::register_of;
+use crate::taken::{register_of, table_of};
 use crate::words::{ChipWords, word_of};
+use chip_pass::ChipPass;
 use design_core::{PortBit, PortValues};
 use emu_io::{List, NoMemory};
 use emu_machine::{Action, Results};
 use id_arena::{ChipId, ChipNetId, GroupId, Key, MemId, RegId, Wire};
+use slot_endings::all_endings;
 use std::alloc::Global;
 use std::marker::Model;
 
@@ -34,12 +34,10 @@ pub struct Machine<'a> {
     held: Vec<List<bool>>,
     /// For each chip the words of its memories.
     words: Vec<ChipWords>,
-    /// By chip and net what the net shows.
-    shown: Vec<List<bool>>,
     /// By wire the value that it carries.
     carried: Vec<bool>,
-    /// For each chip the steps of its gates, in an order in which inputs come first.
-    steps: Vec<List<Step>>,
+    /// For each chip a pass over its gates, which has what each net shows.
+    passes: Vec<ChipPass<'a, bool>>,
     /// For each frame and slot the actions whose last slot it is.
     endings: Vec<List<List<Action>>>,
     /// By net of the design the outside value of an input.
@@ -57,7 +55,7 @@ impl<'a> Model for Machine<'a> {
       tables = tables m.held.items m.words.items m.outside.items m.carried.items;
     } };
 
-    ghost invariant = { λ m. IsMachine m.results.now m.wires.now (tables m.held.items m.words.items m.outside.items m.carried.items) m.shown.items m.steps.items m.endings.items };
+    ghost invariant = { λ m. IsMachine m.results.now m.wires.now (tables m.held.items m.words.items m.outside.items m.carried.items) m.passes.items m.endings.items };
 }
 
 impl<'a> Machine<'a> {
@@ -83,19 +81,17 @@ impl<'a> Machine<'a> {
         ensures state { IfOk result (λ m. state m ≡ state_of loaded) }
     {
         results.stand();
-        let steps = all_steps(alloc, results)?;
         let endings = all_endings(alloc, results, wires)?;
         let carried = idle_wires(alloc, wires.len())?;
         let (held, words, outside) = loaded.into_tables();
-        let shown = shown_by(alloc, results, steps.as_slice(), held.as_slice())?;
+        let passes = settled_passes(alloc, results, held.as_slice())?;
         Ok(Machine {
             results,
             wires,
             held,
             words,
-            shown,
+            passes,
             carried,
-            steps,
             endings,
             outside,
         })
@@ -123,7 +119,10 @@ impl<'a> Machine<'a> {
         ensures inputs { length self.new.tables.outside ≡ length self.old.tables.outside }
         ensures state { state self.new ≡ slot_step self.old.results.net self.old.wires (frame_slots self.old.results group.place) t (state self.old) }
     {
-        let plan = plan_of(self.results, self.wires, self.steps.as_slice());
+        let plan = Plan {
+            results: self.results,
+            wires: self.wires,
+        };
         let frame = timetable_of(self.results, self.endings.as_slice(), group);
         do_slot_alone(
             plan,
@@ -133,7 +132,7 @@ impl<'a> Machine<'a> {
             &mut self.held,
             &mut self.words,
             &mut self.carried,
-            &mut self.shown,
+            &mut self.passes,
         );
     }
 
@@ -147,7 +146,10 @@ impl<'a> Machine<'a> {
         ensures state { state self.new ≡ after_frame self.old.results self.old.wires (record { group = group; values = values.now }) (state self.old) }
     {
         self.present(values);
-        let plan = plan_of(self.results, self.wires, self.steps.as_slice());
+        let plan = Plan {
+            results: self.results,
+            wires: self.wires,
+        };
         let frame = timetable_of(self.results, self.endings.as_slice(), group);
         do_frame(
             plan,
@@ -156,7 +158,7 @@ impl<'a> Machine<'a> {
             &mut self.held,
             &mut self.words,
             &mut self.carried,
-            &mut self.shown,
+            &mut self.passes,
         );
     }
 
@@ -166,7 +168,7 @@ impl<'a> Machine<'a> {
         requires net { net.place < (chip_at self.now.results.net chip.place).nets }
         ensures { result ≡ net_value self.now.results.net (state self.now) chip.place net.place }
     {
-        value_at(self.shown.as_slice(), chip, net)
+        value_of(table_of(self.passes.as_slice(), chip), net)
     }
 
     /// What a register holds.
@@ -176,7 +178,7 @@ impl<'a> Machine<'a> {
             → result ≡ (state self.now).held chip.place r.q.place }
     {
         let q = register_of(self.results, chip, register).q;
-        value_at(self.held.as_slice(), chip, q)
+        held_at(self.held.as_slice(), chip, q)
     }
 
     /// The word of a memory at an address.
@@ -192,28 +194,6 @@ impl<'a> Machine<'a> {
         ensures { CanRun self.now.results self.now.wires (length self.now.tables.outside) }
     {
         let _ = &self.results;
-    }
-}
-
-/// The value that a table has for a net of a chip.
-fn value_at(table: &[List<bool>], chip: ChipId, net: ChipNetId) -> bool
-    requires chip { chip.place < length table.now }
-    requires net { net.place < length (get_or table.now chip.place []) }
-    ensures { result ≡ cell table.now chip.place net.place }
-{
-    *table[chip.place() as usize].get(net.place() as u64)
-}
-
-/// What a slot is done by.
-fn plan_of<'a>(results: &'a Results, wires: &'a [Wire], steps: &'a [List<Step>]) -> Plan<'a>
-    ensures results { result.results.now ≡ results.now }
-    ensures wires { result.wires.now ≡ wires.now }
-    ensures steps { result.steps.now ≡ steps.now }
-{
-    Plan {
-        results,
-        wires,
-        steps,
     }
 }
 
@@ -244,46 +224,6 @@ fn idle_wires(alloc: Global, count: usize) -> Result<Vec<bool>, NoMemory>
 {
     let carried = vec![in alloc; false; count]?;
     Ok(carried)
-}
-
-/// The steps of the gates of each chip.
-fn all_steps(alloc: Global, results: &Results) -> Result<Vec<List<Step>>, NoMemory>
-    requires { (c : ℕ) (chip : Chip) → slice_get results.now.net c ≡ Some chip → ChipStands chip }
-    ensures { IfOk result (λ steps. AllStepped results.now steps.items) }
-{
-    let mut steps = Vec::new(alloc);
-    'chips: for chip in chips_of(results) {
-        steps.push(steps_of(alloc, chip)?)?;
-    }
-    Ok(steps)
-}
-
-/// What the nets of all chips show, for what their registers hold.
-fn shown_by(
-    alloc: Global,
-    results: &Results,
-    steps: &[List<Step>],
-    held: &[List<bool>],
-) -> Result<Vec<List<bool>>, NoMemory>
-    requires chips { (c : ℕ) (chip : Chip) → slice_get results.now.net c ≡ Some chip → ChipStands chip }
-    requires steps { AllStepped results.now steps.now }
-    requires held { HaveSizes results.now held.now }
-    ensures { IfOk result (λ shown. AllShown results.now held.now shown.items) }
-{
-    let mut shown = zeros(alloc, results)?;
-    settle_all(results, steps, held, &mut shown);
-    Ok(shown)
-}
-
-/// A value for each net of each chip, as yet 0.
-fn zeros(alloc: Global, results: &Results) -> Result<Vec<List<bool>>, NoMemory>
-    ensures { IfOk result (λ table. HaveSizes results.now table.items) }
-{
-    let mut table = Vec::new(alloc);
-    'chips: for chip in chips_of(results) {
-        table.push(List::from_vec(vec![in alloc; false; chip.nets as usize]?))?;
-    }
-    Ok(table)
 }
 
 /// Puts values in the place of those that stand there, one after the other.

@@ -3,11 +3,12 @@
 ghost use Rattle.std.specs.Prelude.{◌≡◌, All, length};
 ghost use Rattle.emu_machine.specs.Results.{Results};
 ghost use Rattle.cycle_sim.specs.Standing.{CanSend};
+ghost use Rattle.cycle_sim.specs.Passes.{rows_of};
 ghost use Rattle.cycle_sim.specs.Takes.{HasSent, HasSentOne};
 
 use crate::gates::value_of;
 use crate::taken::{action_at, ends_of, table_of};
-use emu_io::List;
+use chip_pass::ChipPass;
 use emu_machine::Action;
 use id_arena::{Key, Wire};
 
@@ -16,14 +17,14 @@ use id_arena::{Key, Wire};
 #[tactic(auto, using(crate::proofs::Sending::nothing_yet))]
 pub(crate) fn send_all(
     wires: &[Wire],
-    shown: &[List<bool>],
+    shown: &[ChipPass<'_, bool>],
     actions: &[Action],
     carried: &mut [bool],
 )
-    requires actions { All (CanSend wires.now shown.now) actions.now }
+    requires actions { All (CanSend wires.now (rows_of shown.now)) actions.now }
     requires carried { length carried.old ≡ length wires.now }
     ensures size { length carried.new ≡ length wires.now }
-    ensures sent { (r : Results) → HasSent r wires.now shown.now actions.now carried.old carried.new }
+    ensures sent { (r : Results) → HasSent r wires.now (rows_of shown.now) actions.now carried.old carried.new }
 {
     let mut left = actions.len();
     'actions: while left > 0 {
@@ -33,11 +34,11 @@ pub(crate) fn send_all(
 }
 
 /// Puts on the wire that an action sends over, if it does, the value that its net shows.
-fn send(wires: &[Wire], shown: &[List<bool>], action: &Action, carried: &mut [bool])
-    requires action { CanSend wires.now shown.now action.now }
+fn send(wires: &[Wire], shown: &[ChipPass<'_, bool>], action: &Action, carried: &mut [bool])
+    requires action { CanSend wires.now (rows_of shown.now) action.now }
     requires carried { length carried.old ≡ length wires.now }
     ensures size { length carried.new ≡ length wires.now }
-    ensures sent { (r : Results) → HasSentOne r wires.now shown.now action.now carried.old carried.new }
+    ensures sent { (r : Results) → HasSentOne r wires.now (rows_of shown.now) action.now carried.old carried.new }
 {
     match *action {
         Action::Send { wire, net, .. } => {

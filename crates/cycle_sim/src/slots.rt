@@ -1,29 +1,31 @@
 //! Slots, one after the other: nets get their values only where something reads them.
 
-ghost use Rattle.std.specs.Prelude.{◌≡◌, ◌<◌, ◌||◌, ◌&&◌, ℕ, [], true, false, Some, get_or, length, slice_get};
+ghost use Rattle.std.specs.Prelude.{◌≡◌, ◌<◌, ℕ, Bool, List, [], Some, get_or, length, slice_get};
 ghost use Rattle.std.specs.List.{list_all};
 ghost use Rattle.emu_machine.specs.declared.netlist.Chip.{Chip};
 ghost use Rattle.emu_machine.specs.State.{actions_of, slot_step, state_at};
+ghost use Rattle.slot_endings.specs.Endings.{AreEndings};
+ghost use Rattle.cycle_sim.specs.Passes.{ArePasses, ShowHeld, rows_of};
 ghost use Rattle.cycle_sim.specs.Standing.{ChipStands, SlotsStand};
-ghost use Rattle.cycle_sim.specs.Tables.{AllShown, AllStepped, AreEndings, HaveSizes, IsFresh, IsUnderWay, state_of, tables};
-ghost use Rattle.cycle_sim.specs.Takes.{is_direct, leaves_all, takes_no_net};
+ghost use Rattle.cycle_sim.specs.Tables.{IsFresh, IsUnderWay, state_of, tables};
+ghost use Rattle.cycle_sim.specs.Takes.{AreServed, is_direct, leaves_all, takes_no_net};
 
-use crate::pass::settle_all;
+use crate::passes::settle_all;
 use crate::sent::send_all;
-use crate::steps::Step;
+use crate::shown::show_taken;
 use crate::stored::store_all;
 use crate::taken::take_all;
 use crate::words::ChipWords;
+use chip_pass::ChipPass;
 use emu_io::List;
 use emu_machine::{Action, Results, Slot};
 use id_arena::{Key, Wire, WireId};
 
-/// What slots are done by: the results, the wires, and the steps of each chip's gates.
+/// What slots are done by: the results and the wires.
 #[derive(Clone, Copy, Drop)]
 pub(crate) struct Plan<'a> {
     pub(crate) results: &'a Results,
     pub(crate) wires: &'a [Wire],
-    pub(crate) steps: &'a [List<Step>],
 }
 
 /// The slots of a frame, and for each of them the actions that end in it.
@@ -37,7 +39,6 @@ pub(crate) struct Timetable<'a> {
 ///
 /// Slots whose actions read no net follow one another without a pass over the gates, so a frame that
 /// takes outside values alone has one pass, however many slots it has.
-#[tactic(auto, using(crate::proofs::UnderWay::settled_at_last))]
 pub(crate) fn do_frame(
     plan: Plan<'_>,
     frame: Timetable<'_>,
@@ -45,24 +46,22 @@ pub(crate) fn do_frame(
     held: &mut [List<bool>],
     words: &mut [ChipWords],
     carried: &mut [bool],
-    shown: &mut [List<bool>],
+    passes: &mut [ChipPass<'_, bool>],
 )
     requires slots { SlotsStand plan.results.now plan.wires.now (length outside.now) frame.slots.now }
     requires endings { AreEndings plan.wires.now frame.slots.now frame.endings.now }
-    requires machine { IsFresh plan.results.now plan.wires.now (tables held.old words.old outside.now carried.old) shown.old plan.steps.now }
-    ensures machine { IsFresh plan.entry.results.now plan.entry.wires.now (tables held.new words.new outside.now carried.new) shown.new plan.entry.steps.now }
+    requires machine { IsFresh plan.results.now plan.wires.now (tables held.old words.old outside.now carried.old) passes.old }
+    ensures machine { IsFresh plan.entry.results.now plan.entry.wires.now (tables held.new words.new outside.now carried.new) passes.new }
     ensures state { state_of (tables held.new words.new outside.now carried.new)
         ≡ state_at plan.entry.results.now.net plan.entry.wires.now frame.entry.slots.now (state_of (tables held.old words.old outside.now carried.old)) (length frame.entry.slots.now) }
 {
-    let mut fresh = true;
     'slots: for t in 0..frame.slots.len() {
-        fresh = do_slot(plan, frame, t, outside, fresh, held, words, carried, shown);
+        do_slot(plan, frame, t, outside, held, words, carried, passes);
     }
-    refresh(plan, fresh, held, shown);
+    settle_all(plan.results, passes);
 }
 
 /// Does one slot of a frame, and then gives the nets of all chips their values.
-#[tactic(auto, using(crate::proofs::UnderWay::settled_at_last))]
 pub(crate) fn do_slot_alone(
     plan: Plan<'_>,
     frame: Timetable<'_>,
@@ -71,61 +70,59 @@ pub(crate) fn do_slot_alone(
     held: &mut [List<bool>],
     words: &mut [ChipWords],
     carried: &mut [bool],
-    shown: &mut [List<bool>],
+    passes: &mut [ChipPass<'_, bool>],
 )
     requires there { t < length frame.slots.now }
     requires slots { SlotsStand plan.results.now plan.wires.now (length outside.now) frame.slots.now }
     requires endings { AreEndings plan.wires.now frame.slots.now frame.endings.now }
-    requires machine { IsFresh plan.results.now plan.wires.now (tables held.old words.old outside.now carried.old) shown.old plan.steps.now }
-    ensures machine { IsFresh plan.entry.results.now plan.entry.wires.now (tables held.new words.new outside.now carried.new) shown.new plan.entry.steps.now }
+    requires machine { IsFresh plan.results.now plan.wires.now (tables held.old words.old outside.now carried.old) passes.old }
+    ensures machine { IsFresh plan.entry.results.now plan.entry.wires.now (tables held.new words.new outside.now carried.new) passes.new }
     ensures state { state_of (tables held.new words.new outside.now carried.new)
         ≡ slot_step plan.entry.results.now.net plan.entry.wires.now frame.entry.slots.now t (state_of (tables held.old words.old outside.now carried.old)) }
 {
-    let fresh = do_slot(plan, frame, t, outside, true, held, words, carried, shown);
-    refresh(plan, fresh, held, shown);
+    do_slot(plan, frame, t, outside, held, words, carried, passes);
+    settle_all(plan.results, passes);
 }
 
-/// Does a slot of a frame, and answers whether the nets still show what comes to them. Where they did not
-/// and an action reads one, all get their values first.
+/// Does a slot of a frame. Where an action reads a net, the gates that wait have their turn first.
 ///
 /// Registers and read nets take from the actions that end in the slot, what wires carry and words hold from
-/// before it among it; then the actions that begin in it put new values on their wires and in words.
+/// before it among it; then the actions that begin in it put new values on their wires and in words. The nets
+/// show what was taken only when all is done.
 fn do_slot(
     plan: Plan<'_>,
     frame: Timetable<'_>,
     t: usize,
     outside: &[bool],
-    fresh: bool,
     held: &mut [List<bool>],
     words: &mut [ChipWords],
     carried: &mut [bool],
-    shown: &mut [List<bool>],
-) -> bool
+    passes: &mut [ChipPass<'_, bool>],
+)
     requires there { t < length frame.slots.now }
     requires slots { SlotsStand plan.results.now plan.wires.now (length outside.now) frame.slots.now }
     requires endings { AreEndings plan.wires.now frame.slots.now frame.endings.now }
-    requires before { IsUnderWay plan.results.now plan.wires.now (tables held.old words.old outside.now carried.old) shown.old plan.steps.now fresh }
-    ensures after { IsUnderWay plan.entry.results.now plan.entry.wires.now (tables held.new words.new outside.now carried.new) shown.new plan.entry.steps.now result }
+    requires before { IsUnderWay plan.results.now plan.wires.now (tables held.old words.old outside.now carried.old) passes.old }
+    ensures after { IsUnderWay plan.entry.results.now plan.entry.wires.now (tables held.new words.new outside.now carried.new) passes.new }
     ensures state { state_of (tables held.new words.new outside.now carried.new)
         ≡ slot_step plan.entry.results.now.net plan.entry.wires.now frame.entry.slots.now t (state_of (tables held.old words.old outside.now carried.old)) }
 {
     let starting = starting_in(frame, t);
     let ending = ending_in(frame, t);
-    let served = are_served(plan.wires, starting, ending, fresh);
-    refresh(plan, served, held, shown);
+    serve(plan, starting, ending, passes);
     take_all(
         plan.results,
         plan.wires,
-        shown,
+        passes,
         words,
         outside,
         carried,
         ending,
         held,
     );
-    send_all(plan.wires, shown, starting, carried);
-    store_all(plan.results, shown, starting, words);
-    are_still_fresh(fresh, ending)
+    send_all(plan.wires, passes, starting, carried);
+    store_all(plan.results, passes, starting, words);
+    show_taken(plan.results, plan.wires, held, ending, passes);
 }
 
 /// The actions of a slot.
@@ -144,25 +141,20 @@ fn ending_in<'a>(frame: Timetable<'a>, t: usize) -> &'a [Action]
     frame.endings[t].as_slice()
 }
 
-/// Gives the nets of all chips the values that come to them, unless this is spared.
-fn refresh(plan: Plan<'_>, spared: bool, held: &[List<bool>], shown: &mut [List<bool>])
+/// Gives the nets of all chips the values that come to them, unless no action reads one.
+fn serve(plan: Plan<'_>, starting: &[Action], ending: &[Action], passes: &mut [ChipPass<'_, bool>])
     requires chips { (c : ℕ) (chip : Chip) → slice_get plan.results.now.net c ≡ Some chip → ChipStands chip }
-    requires steps { AllStepped plan.results.now plan.steps.now }
-    requires held { HaveSizes plan.results.now held.now }
-    requires shown { HaveSizes plan.results.now shown.old }
-    ensures spared { spared ≡ true → shown.new ≡ shown.old }
-    ensures settled { spared ≡ false → AllShown plan.entry.results.now held.now shown.new }
+    requires passes { ArePasses plan.results.now passes.old }
+    ensures passes { ArePasses plan.entry.results.now passes.new }
+    ensures level { (held : List (List Bool)) → ShowHeld plan.entry.results.now held (rows_of passes.old) → ShowHeld plan.entry.results.now held (rows_of passes.new) }
+    ensures taken { (held : List (List Bool)) → ShowHeld plan.entry.results.now held (rows_of passes.old)
+        → AreServed plan.entry.results.now held (rows_of passes.new) (list_all (takes_no_net plan.entry.wires.now) ending.now) }
+    ensures left { (held : List (List Bool)) → ShowHeld plan.entry.results.now held (rows_of passes.old)
+        → AreServed plan.entry.results.now held (rows_of passes.new) (list_all leaves_all starting.now) }
 {
-    if !spared {
-        settle_all(plan.results, plan.steps, held, shown);
+    if !take_no_nets(plan.wires, ending) || !leave_all(starting) {
+        settle_all(plan.results, passes);
     }
-}
-
-/// Whether the actions of a slot find what they read: the nets are fresh, or no action reads one.
-fn are_served(wires: &[Wire], starting: &[Action], ending: &[Action], fresh: bool) -> bool
-    ensures { result ≡ (fresh || (list_all (takes_no_net wires.now) ending.now && list_all leaves_all starting.now)) }
-{
-    fresh || (take_no_nets(wires, ending) && leave_all(starting))
 }
 
 /// Whether what actions give in their last slot hangs on no net.
@@ -213,11 +205,4 @@ fn leaves_all(action: &Action) -> bool
         Action::Send { .. } | Action::Write { .. } => false,
         Action::Input { .. } | Action::Load { .. } | Action::Read { .. } => true,
     }
-}
-
-/// Whether nets that were fresh stay so, since no register takes anything.
-fn are_still_fresh(fresh: bool, ending: &[Action]) -> bool
-    ensures { result ≡ true → (fresh ≡ true) × (ending.now ≡ []) }
-{
-    fresh && ending.is_empty()
 }

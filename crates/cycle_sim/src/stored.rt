@@ -3,6 +3,7 @@
 ghost use Rattle.std.specs.Prelude.{◌≡◌, ℕ, All, Some, slice_get};
 ghost use Rattle.emu_machine.specs.declared.netlist.Chip.{Chip};
 ghost use Rattle.emu_machine.specs.State.{write_port};
+ghost use Rattle.cycle_sim.specs.Passes.{rows_of};
 ghost use Rattle.cycle_sim.specs.Standing.{CanStore, ChipStands, IsWritePort};
 ghost use Rattle.cycle_sim.specs.Tables.{HaveSizes, HaveWords};
 ghost use Rattle.cycle_sim.specs.Takes.{HasStored, HasStoredOne};
@@ -11,7 +12,7 @@ use crate::gates::value_of;
 use crate::parts::chip_of;
 use crate::taken::{action_at, table_of};
 use crate::words::{ChipWords, address_of, number_of, put_word};
-use emu_io::List;
+use chip_pass::ChipPass;
 use emu_machine::{Action, EmuWrite, Results};
 use id_arena::{ChipId, Key, MemId};
 
@@ -20,16 +21,16 @@ use id_arena::{ChipId, Key, MemId};
 #[tactic(auto, using(crate::proofs::Storing::nothing_yet))]
 pub(crate) fn store_all(
     results: &Results,
-    shown: &[List<bool>],
+    shown: &[ChipPass<'_, bool>],
     actions: &[Action],
     words: &mut [ChipWords],
 )
     requires chips { (c : ℕ) (chip : Chip) → slice_get results.now.net c ≡ Some chip → ChipStands chip }
-    requires shown { HaveSizes results.now shown.now }
+    requires shown { HaveSizes results.now (rows_of shown.now) }
     requires actions { All (CanStore results.now) actions.now }
     requires words { HaveWords results.now words.old }
     ensures sizes { HaveWords results.now words.new }
-    ensures stored { HasStored results.now shown.now actions.now words.old words.new }
+    ensures stored { HasStored results.now (rows_of shown.now) actions.now words.old words.new }
 {
     let mut left = actions.len();
     'actions: while left > 0 {
@@ -39,13 +40,13 @@ pub(crate) fn store_all(
 }
 
 /// Puts the data of an action's write port at its address, if there is one and its enable is 1.
-fn store(results: &Results, shown: &[List<bool>], action: &Action, words: &mut [ChipWords])
+fn store(results: &Results, shown: &[ChipPass<'_, bool>], action: &Action, words: &mut [ChipWords])
     requires chips { (c : ℕ) (chip : Chip) → slice_get results.now.net c ≡ Some chip → ChipStands chip }
-    requires shown { HaveSizes results.now shown.now }
+    requires shown { HaveSizes results.now (rows_of shown.now) }
     requires action { CanStore results.now action.now }
     requires words { HaveWords results.now words.old }
     ensures sizes { HaveWords results.now words.new }
-    ensures stored { HasStoredOne results.now shown.now action.now words.old words.new }
+    ensures stored { HasStoredOne results.now (rows_of shown.now) action.now words.old words.new }
 {
     match *action {
         Action::Write { chip, mem, port } => {

@@ -3,6 +3,7 @@
 ghost use Rattle.std.specs.Prelude.{◌≡◌, ◌<◌, ◌==◌, false, if◌then◌else◌, Some, All, [], length, get_or, slice_get, slice_set};
 ghost use Rattle.emu_machine.specs.Netlist.{chip_at};
 ghost use Rattle.emu_machine.specs.State.{loaded_value, read_port};
+ghost use Rattle.cycle_sim.specs.Passes.{rows_of};
 ghost use Rattle.cycle_sim.specs.Standing.{CanTake, IsReadPort, IsRegister, RegisterStands};
 ghost use Rattle.cycle_sim.specs.Tables.{HaveSizes, HaveWords, IsReady};
 ghost use Rattle.cycle_sim.specs.Takes.{HasTaken, HasTakenOne};
@@ -11,6 +12,7 @@ ghost use Rattle.cycle_sim.specs.Values.{value_in};
 use crate::gates::value_of;
 use crate::parts::chip_of;
 use crate::words::{ChipWords, address_of, show_on_chip, word_of};
+use chip_pass::ChipPass;
 use emu_io::List;
 use emu_machine::{Action, EmuRead, EmuRegister, Results};
 use id_arena::{ChipId, ChipNetId, Key, MemId, RegId, Wire, WireId};
@@ -22,20 +24,20 @@ use id_arena::{ChipId, ChipNetId, Key, MemId, RegId, Wire, WireId};
 pub(crate) fn take_all(
     results: &Results,
     wires: &[Wire],
-    shown: &[List<bool>],
+    shown: &[ChipPass<'_, bool>],
     words: &[ChipWords],
     outside: &[bool],
     carried: &[bool],
     actions: &[Action],
     held: &mut [List<bool>],
 )
-    requires ready { IsReady results.now wires.now (length outside.now) shown.now }
+    requires ready { IsReady results.now wires.now (length outside.now) (rows_of shown.now) }
     requires actions { All (CanTake results.now wires.now (length outside.now)) actions.now }
     requires carried { length carried.now ≡ length wires.now }
     requires words { HaveWords results.now words.now }
     requires held { HaveSizes results.now held.old }
     ensures sizes { HaveSizes results.now held.new }
-    ensures taken { HasTaken results.now wires.now shown.now words.now outside.now carried.now actions.now held.old held.new }
+    ensures taken { HasTaken results.now wires.now (rows_of shown.now) words.now outside.now carried.now actions.now held.old held.new }
 {
     let mut left = actions.len();
     'actions: while left > 0 {
@@ -58,20 +60,20 @@ pub(crate) fn action_at(actions: &[Action], place: usize) -> &Action
 fn take(
     results: &Results,
     wires: &[Wire],
-    shown: &[List<bool>],
+    shown: &[ChipPass<'_, bool>],
     words: &[ChipWords],
     outside: &[bool],
     carried: &[bool],
     action: &Action,
     held: &mut [List<bool>],
 )
-    requires ready { IsReady results.now wires.now (length outside.now) shown.now }
+    requires ready { IsReady results.now wires.now (length outside.now) (rows_of shown.now) }
     requires action { CanTake results.now wires.now (length outside.now) action.now }
     requires carried { length carried.now ≡ length wires.now }
     requires words { HaveWords results.now words.now }
     requires held { HaveSizes results.now held.old }
     ensures sizes { HaveSizes results.now held.new }
-    ensures taken { HasTakenOne results.now wires.now shown.now words.now outside.now carried.now action.now held.old held.new }
+    ensures taken { HasTakenOne results.now wires.now (rows_of shown.now) words.now outside.now carried.now action.now held.old held.new }
 {
     match *action {
         Action::Input {
@@ -131,13 +133,13 @@ fn arriving(
     ends: Wire,
     wire: WireId,
     net: ChipNetId,
-    shown: &[List<bool>],
+    shown: &[ChipPass<'_, bool>],
     carried: &[bool],
 ) -> bool
-    requires chip { ends.from.place < length shown.now }
-    requires net { net.place < length (get_or shown.now ends.from.place []) }
+    requires chip { ends.from.place < length (rows_of shown.now) }
+    requires net { net.place < length (get_or (rows_of shown.now) ends.from.place []) }
     requires wire { wire.place < length carried.now }
-    ensures { result ≡ (if ends.latency == 1 then value_in (get_or shown.now ends.from.place []) net else get_or carried.now wire.place false) }
+    ensures { result ≡ (if ends.latency == 1 then value_in (get_or (rows_of shown.now) ends.from.place []) net else get_or carried.now wire.place false) }
 {
     if ends.latency == 1 {
         value_of(table_of(shown, ends.from), net)
@@ -147,11 +149,11 @@ fn arriving(
 }
 
 /// What the nets of a chip show.
-pub(crate) fn table_of(shown: &[List<bool>], chip: ChipId) -> &[bool]
-    requires { chip.place < length shown.now }
-    ensures { result.now ≡ get_or shown.now chip.place [] }
+pub(crate) fn table_of<'a>(shown: &'a [ChipPass<'_, bool>], chip: ChipId) -> &'a [bool]
+    requires { chip.place < length (rows_of shown.now) }
+    ensures { result.now ≡ get_or (rows_of shown.now) chip.place [] }
 {
-    shown[chip.place() as usize].as_slice()
+    shown[chip.place() as usize].values()
 }
 
 /// The register of these numbers.
@@ -165,7 +167,7 @@ pub(crate) fn register_of(results: &Results, chip: ChipId, register: RegId) -> E
 }
 
 /// The read port of these numbers.
-fn read_port_of(results: &Results, chip: ChipId, mem: MemId, port: u32) -> &EmuRead
+pub(crate) fn read_port_of(results: &Results, chip: ChipId, mem: MemId, port: u32) -> &EmuRead
     requires { IsReadPort results.now chip.place mem.place port }
     ensures { read_port results.now.net chip.place mem.place port ≡ Some result.now }
 {

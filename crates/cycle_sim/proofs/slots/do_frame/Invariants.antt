@@ -6,7 +6,7 @@ use Rattle.cycle_sim.proofs.slots.do_frame.Given as goal
 
 abbrev pub invariant-slots : goal.invariant-slots
 invariant-slots l = record {
-  under : IsUnderWay l.plan.results.now l.plan.wires.now (record { held = l.held; words = l.words; outside = l.outside; carried = l.carried }) l.shown l.plan.steps.now l.fresh;
+  under : IsUnderWay l.plan.results.now l.plan.wires.now (record { held = l.held; words = l.words; outside = l.outside; carried = l.carried }) l.passes;
   at : state_of (record { held = l.held; words = l.words; outside = l.outside; carried = l.carried })
       ≡ state_at l.plan.results.now.net l.plan.wires.now l.frame.slots.now (state_of (record { held = l.initial.held; words = l.initial.words; outside = l.outside; carried = l.initial.carried })) l.t;
 }

@@ -6,6 +6,7 @@ use Rattle.emu_machine.specs.Netlist.{chip_at}
 use Rattle.cycle_sim.specs.Standing.{IsThere}
 use Rattle.cycle_sim.specs.Tables.{HaveWords}
 use Rattle.cycle_sim.specs.Values.{value_in, values_in}
+use Rattle.cycle_sim.specs.Passes.{rows_of}
 use Rattle.cycle_sim.proofs.Ports.{all_there, memories_low, words_low, address_low, owner, write_memory, write_low, write_of, write_address_few, write_feed_few, write_address_low, write_enable_in, write_address_in, write_feed_in}
 use Rattle.cycle_sim.proofs.Storing.{store_left, store_done, put_fits}
 use Rattle.cycle_sim.proofs.stored.store.Goals as goal
@@ -13,13 +14,13 @@ use Rattle.cycle_sim.proofs.stored.store.Goals as goal
 pub value_of-requires : goal.value_of-requires
 value_of-requires c =
     write_enable_in c.args.results.now c.requires.chips c.in-Write.chip.place c.in-Write.mem.place c.in-Write.port c.write_port_of-port.result.now c.write_port_of-port.ensures
-    c.args.shown.now c.requires.shown c.table_of-table.result.now c.table_of-table.ensures
+    (rows_of c.args.shown.now) c.requires.shown c.table_of-table.result.now c.table_of-table.ensures
 
 pub address_of-address-requires-clause-there : goal.address_of-address-requires-clause-there
 address_of-address-requires-clause-there c =
     subst (λ (bits : List ChipNetId). All (IsThere (length c.table_of-table.result.now)) bits) (sym c.as_slice.ensures)
     (write_address_in c.args.results.now c.requires.chips c.in-Write.chip.place c.in-Write.mem.place c.in-Write.port c.write_port_of-port.result.now c.write_port_of-port.ensures
-    c.args.shown.now c.requires.shown c.table_of-table.result.now c.table_of-table.ensures)
+    (rows_of c.args.shown.now) c.requires.shown c.table_of-table.result.now c.table_of-table.ensures)
 
 pub address_of-address-requires-clause-few : goal.address_of-address-requires-clause-few
 address_of-address-requires-clause-few c =
@@ -30,7 +31,7 @@ pub number_of-word-requires-clause-there : goal.number_of-word-requires-clause-t
 number_of-word-requires-clause-there c =
     subst (λ (bits : List ChipNetId). All (IsThere (length c.table_of-table.result.now)) bits) (sym c.as_slice-then-value_of.ensures)
     (write_feed_in c.args.results.now c.requires.chips c.in-Write.chip.place c.in-Write.mem.place c.in-Write.port c.write_port_of-port.result.now c.write_port_of-port.ensures
-    c.args.shown.now c.requires.shown c.table_of-table.result.now c.table_of-table.ensures)
+    (rows_of c.args.shown.now) c.requires.shown c.table_of-table.result.now c.table_of-table.ensures)
 
 pub number_of-word-requires-clause-few : goal.number_of-word-requires-clause-few
 number_of-word-requires-clause-few c =
@@ -60,15 +61,15 @@ returns-then-value_of-clause-sizes c =
 
 pub returns-then-value_of-clause-stored : goal.returns-then-value_of-clause-stored
 returns-then-value_of-clause-stored c =
-    store_done c.args.results.now c.args.shown.now c.in-Write.chip c.in-Write.mem c.in-Write.port c.write_port_of-port.result.now c.write_port_of-port.ensures
+    store_done c.args.results.now (rows_of c.args.shown.now) c.in-Write.chip c.in-Write.mem c.in-Write.port c.write_port_of-port.result.now c.write_port_of-port.ensures
     (write_low c.args.results.now c.requires.chips c.in-Write.chip.place c.in-Write.mem.place c.in-Write.port c.write_port_of-port.result.now c.write_port_of-port.ensures)
     (write_of c.args.results.now c.requires.chips c.in-Write.chip.place c.in-Write.mem.place c.in-Write.port c.write_port_of-port.result.now c.write_port_of-port.ensures).enable
     (all_there (chip_at c.args.results.now.net c.in-Write.chip.place).nets c.write_port_of-port.result.now.address (write_of c.args.results.now c.requires.chips c.in-Write.chip.place c.in-Write.mem.place c.in-Write.port c.write_port_of-port.result.now c.write_port_of-port.ensures).address)
     (all_there (chip_at c.args.results.now.net c.in-Write.chip.place).nets c.write_port_of-port.result.now.feed (write_of c.args.results.now c.requires.chips c.in-Write.chip.place c.in-Write.mem.place c.in-Write.port c.write_port_of-port.result.now c.write_port_of-port.ensures).feed)
     c.args.words.now c.args.action.now c.in-Write.is c.value_of.result (c.value_of.ensures ∙ ap (λ t. value_in t c.write_port_of-port.result.now.enable) c.table_of-table.ensures)
     c.if-value_of.true c.address_of-address.result c.number_of-word.result
-    (c.address_of-address.ensures.shown ∙ ap (λ t. number (values_in t c.as_slice.result.now)) c.table_of-table.ensures ∙ ap (λ bits. number (values_in (get_or c.args.shown.now c.in-Write.chip.place []) bits)) c.as_slice.ensures)
-    (c.number_of-word.ensures.shown ∙ ap (λ t. number (values_in t c.as_slice-then-value_of.result.now)) c.table_of-table.ensures ∙ ap (λ bits. number (values_in (get_or c.args.shown.now c.in-Write.chip.place []) bits)) c.as_slice-then-value_of.ensures)
+    (c.address_of-address.ensures.shown ∙ ap (λ t. number (values_in t c.as_slice.result.now)) c.table_of-table.ensures ∙ ap (λ bits. number (values_in (get_or (rows_of c.args.shown.now) c.in-Write.chip.place []) bits)) c.as_slice.ensures)
+    (c.number_of-word.ensures.shown ∙ ap (λ t. number (values_in t c.as_slice-then-value_of.result.now)) c.table_of-table.ensures ∙ ap (λ bits. number (values_in (get_or (rows_of c.args.shown.now) c.in-Write.chip.place []) bits)) c.as_slice-then-value_of.ensures)
     (words_low c.args.results.now c.in-Write.chip.place c.in-Write.mem.place (owner c.args.results.now c.requires.chips c.in-Write.chip.place c.in-Write.mem.place c.in-Write.port c.write_port_of-port.result.now c.write_port_of-port.ensures).0 (write_memory c.args.results.now c.requires.chips c.in-Write.chip.place c.in-Write.mem.place c.in-Write.port c.write_port_of-port.result.now c.write_port_of-port.ensures) c.args.words.now c.requires.words)
     (memories_low c.args.results.now c.in-Write.chip.place c.in-Write.mem.place (owner c.args.results.now c.requires.chips c.in-Write.chip.place c.in-Write.mem.place c.in-Write.port c.write_port_of-port.result.now c.write_port_of-port.ensures).0 (write_memory c.args.results.now c.requires.chips c.in-Write.chip.place c.in-Write.mem.place c.in-Write.port c.write_port_of-port.result.now c.write_port_of-port.ensures) c.args.words.now c.requires.words)
     (address_low c.args.results.now c.in-Write.chip.place c.in-Write.mem.place (owner c.args.results.now c.requires.chips c.in-Write.chip.place c.in-Write.mem.place c.in-Write.port c.write_port_of-port.result.now c.write_port_of-port.ensures).0 (write_memory c.args.results.now c.requires.chips c.in-Write.chip.place c.in-Write.mem.place c.in-Write.port c.write_port_of-port.result.now c.write_port_of-port.ensures) c.args.words.now c.requires.words
@@ -78,7 +79,7 @@ returns-then-value_of-clause-stored c =
 
 pub returns-else-value_of-clause-stored : goal.returns-else-value_of-clause-stored
 returns-else-value_of-clause-stored c =
-    store_left c.args.results.now c.args.shown.now c.in-Write.chip c.in-Write.mem c.in-Write.port c.write_port_of-port.result.now c.write_port_of-port.ensures
+    store_left c.args.results.now (rows_of c.args.shown.now) c.in-Write.chip c.in-Write.mem c.in-Write.port c.write_port_of-port.result.now c.write_port_of-port.ensures
     (write_low c.args.results.now c.requires.chips c.in-Write.chip.place c.in-Write.mem.place c.in-Write.port c.write_port_of-port.result.now c.write_port_of-port.ensures)
     (write_of c.args.results.now c.requires.chips c.in-Write.chip.place c.in-Write.mem.place c.in-Write.port c.write_port_of-port.result.now c.write_port_of-port.ensures).enable
     (all_there (chip_at c.args.results.now.net c.in-Write.chip.place).nets c.write_port_of-port.result.now.address (write_of c.args.results.now c.requires.chips c.in-Write.chip.place c.in-Write.mem.place c.in-Write.port c.write_port_of-port.result.now c.write_port_of-port.ensures).address)

@@ -1,6 +1,7 @@
 -- The last actions have been done.
 use Rattle.std.proofs.Common.{◌≤◌, drop, length}
 use Rattle.cycle_sim.specs.Tables.{HaveWords}
+use Rattle.cycle_sim.specs.Passes.{rows_of}
 use Rattle.cycle_sim.specs.Takes.{HasStored}
 use Rattle.cycle_sim.proofs.stored.store_all.Given as goal
 
@@ -8,7 +9,7 @@ abbrev pub invariant-actions : goal.invariant-actions
 invariant-actions l = record {
   low : l.left ≤ length l.actions;
   sizes : HaveWords l.results l.words;
-  stored : HasStored l.results l.shown (drop l.left l.actions) l.initial.words l.words;
+  stored : HasStored l.results (rows_of l.shown) (drop l.left l.actions) l.initial.words l.words;
 }
 
 abbrev pub decreases-actions : goal.decreases-actions

@@ -7,6 +7,7 @@ use Rattle.cycle_sim.specs.Standing.{IsThere}
 use Rattle.cycle_sim.specs.Tables.{HaveSizes}
 use Rattle.cycle_sim.specs.Takes.{ShowOnChip}
 use Rattle.cycle_sim.specs.Values.{values_in}
+use Rattle.cycle_sim.specs.Passes.{rows_of}
 use Rattle.cycle_sim.proofs.Chips.{low_in, q_in, stands_in}
 use Rattle.cycle_sim.proofs.Taking.{input_done, load_done, load_left, send_done, read_done, row_sizes}
 use Rattle.cycle_sim.proofs.Ports.{all_there, memories_low, words_low, address_low, reader, read_memory, read_low, read_chip_in, read_of, read_address_few, read_bits_few, read_address_low, read_in}
@@ -20,12 +21,12 @@ put-requires-clause-net c =
 pub table_of-requires : goal.table_of-requires
 table_of-requires c =
     low_in c.args.results.now c.in-Load.chip.place c.in-Load.register.place c.register_of-register-in-Load.result c.register_of-register-in-Load.ensures
-    c.args.shown.now c.requires.ready.sizes
+    (rows_of c.args.shown.now) c.requires.ready.sizes
 
 pub loaded_value-requires : goal.loaded_value-requires
 loaded_value-requires c =
     stands_in c.args.results.now c.in-Load.chip.place c.in-Load.register.place c.register_of-register-in-Load.result c.register_of-register-in-Load.ensures
-    _ _ c.requires.ready.runs c.table_of.result.now c.args.shown.now c.table_of.ensures c.requires.ready.sizes
+    _ _ c.requires.ready.runs c.table_of.result.now (rows_of c.args.shown.now) c.table_of.ensures c.requires.ready.sizes
 
 pub put-requires-in-Some-clause-chip : goal.put-requires-in-Some-clause-chip
 put-requires-in-Some-clause-chip c =
@@ -39,19 +40,19 @@ put-requires-in-Some-clause-net c =
 
 pub returns-in-Input-clause-taken : goal.returns-in-Input-clause-taken
 returns-in-Input-clause-taken c =
-    input_done c.args.results.now _ _ _ _ _ c.requires.ready.runs c.args.shown.now c.args.held.now c.requires.held
+    input_done c.args.results.now _ _ _ _ _ c.requires.ready.runs (rows_of c.args.shown.now) c.args.held.now c.requires.held
     c.in-Input.chip c.in-Input.register c.register_of-register.result c.register_of-register.ensures
     c.in-Input.net c.args.action.now c.in-Input.is c.bit_at.result (c.bit_at.ensures ∙ ap (λ (n : ℕ). get_or c.args.outside.now n false) c.place.ensures) c.put.new.held c.put.ensures
 
 pub returns-in-None-clause-taken : goal.returns-in-None-clause-taken
 returns-in-None-clause-taken c =
-    load_left c.args.results.now _ _ _ _ _ c.requires.ready.runs c.args.shown.now c.args.held.now c.requires.held
+    load_left c.args.results.now _ _ _ _ _ c.requires.ready.runs (rows_of c.args.shown.now) c.args.held.now c.requires.held
     c.in-Load.chip c.in-Load.register c.register_of-register-in-Load.result c.register_of-register-in-Load.ensures
     c.table_of.result.now c.table_of.ensures c.args.action.now c.in-Load.is (sym c.in-None.is ∙ c.loaded_value.ensures)
 
 pub returns-in-Some-clause-taken : goal.returns-in-Some-clause-taken
 returns-in-Some-clause-taken c =
-    load_done c.args.results.now _ _ _ _ _ c.requires.ready.runs c.args.shown.now c.args.held.now c.requires.held
+    load_done c.args.results.now _ _ _ _ _ c.requires.ready.runs (rows_of c.args.shown.now) c.args.held.now c.requires.held
     c.in-Load.chip c.in-Load.register c.register_of-register-in-Load.result c.register_of-register-in-Load.ensures
     c.table_of.result.now c.table_of.ensures c.args.action.now c.in-Load.is c.in-Some.value
     (sym c.in-Some.is ∙ c.loaded_value.ensures) c.put-in-Some.new.held c.put-in-Some.ensures
@@ -63,7 +64,7 @@ put-requires-in-Send-clause-net c =
 
 pub returns-in-Send-clause-taken : goal.returns-in-Send-clause-taken
 returns-in-Send-clause-taken c =
-    send_done c.args.results.now _ _ _ _ _ c.requires.ready.runs c.args.shown.now c.args.held.now c.requires.held
+    send_done c.args.results.now _ _ _ _ _ c.requires.ready.runs (rows_of c.args.shown.now) c.args.held.now c.requires.held
     c.in-Send.wire c.in-Send.net c.in-Send.register c.ends_of-ends.result c.ends_of-ends.ensures c.register_of-register-in-Send.result c.register_of-register-in-Send.ensures
     c.args.action.now c.in-Send.is c.requires.action c.arriving-value.result c.arriving-value.ensures c.put-in-Send.new.held c.put-in-Send.ensures
 
@@ -71,7 +72,7 @@ pub address_of-address-requires-clause-there : goal.address_of-address-requires-
 address_of-address-requires-clause-there c =
     subst (λ (bits : List ChipNetId). All (IsThere (length c.table_of-in-Read.result.now)) bits) (sym c.as_slice.ensures)
     (read_in c.args.results.now c.requires.ready.runs.chips c.in-Read.chip.place c.in-Read.mem.place c.in-Read.port c.read_port_of-port.result.now c.read_port_of-port.ensures
-    c.args.shown.now c.requires.ready.sizes c.table_of-in-Read.result.now c.table_of-in-Read.ensures
+    (rows_of c.args.shown.now) c.requires.ready.sizes c.table_of-in-Read.result.now c.table_of-in-Read.ensures
     c.read_port_of-port.result.now.address (read_of c.args.results.now c.requires.ready.runs.chips c.in-Read.chip.place c.in-Read.mem.place c.in-Read.port c.read_port_of-port.result.now c.read_port_of-port.ensures).address)
 
 pub address_of-address-requires-clause-few : goal.address_of-address-requires-clause-few
@@ -120,7 +121,7 @@ returns-in-Read-clause-sizes c =
 
 pub returns-in-Read-clause-taken : goal.returns-in-Read-clause-taken
 returns-in-Read-clause-taken c =
-    read_done c.args.results.now c.args.wires.now c.args.words.now c.args.outside.now c.args.carried.now c.args.shown.now c.args.held.now
+    read_done c.args.results.now c.args.wires.now c.args.words.now c.args.outside.now c.args.carried.now (rows_of c.args.shown.now) c.args.held.now
     c.in-Read.chip c.in-Read.mem c.in-Read.port c.read_port_of-port.result.now c.read_port_of-port.ensures
     (all_there (chip_at c.args.results.now.net c.in-Read.chip.place).nets c.read_port_of-port.result.now.address (read_of c.args.results.now c.requires.ready.runs.chips c.in-Read.chip.place c.in-Read.mem.place c.in-Read.port c.read_port_of-port.result.now c.read_port_of-port.ensures).address)
     (read_low c.args.results.now c.requires.ready.runs.chips c.in-Read.chip.place c.in-Read.mem.place c.in-Read.port c.read_port_of-port.result.now c.read_port_of-port.ensures)

@@ -1,10 +1,10 @@
-use Rattle.std.proofs.Common.{length, ap}
+use Rattle.std.proofs.Common.{length, refl, ap}
 use Rattle.cycle_sim.proofs.Fitting.{slots_there}
 use Rattle.cycle_sim.proofs.machine.Machine.slot.Goals as goal
 
 pub do_slot_alone-requires-clause-slots : goal.do_slot_alone-requires-clause-slots
 do_slot_alone-requires-clause-slots c =
-    slots_there c.plan_of-plan.result.results.now c.self.inside.results.now c.plan_of-plan.result.wires.now c.self.inside.wires.now
-    (length c.as_slice-3.result.now) (length c.self.inside.outside.items) c.args.group.place c.timetable_of-frame.result.slots.now
-    c.self.invariant.settled.equipped.runs c.plan_of-plan.ensures.results c.plan_of-plan.ensures.wires
-    (ap length c.as_slice-3.ensures.value) c.timetable_of-frame.ensures.slots
+    slots_there c.self.inside.results.now c.self.inside.results.now c.self.inside.wires.now c.self.inside.wires.now
+    (length c.as_slice-2.result.now) (length c.self.inside.outside.items) c.args.group.place c.timetable_of-frame.result.slots.now
+    c.self.invariant.settled.under.equipped.runs refl refl
+    (ap length c.as_slice-2.ensures.value) c.timetable_of-frame.ensures.slots

@@ -1,8 +1,0 @@
--- The actions of the first slots are added.
-use Rattle.std.proofs.Common.{take, length}
-use Rattle.emu_machine.specs.State.{timed_actions}
-use Rattle.cycle_sim.specs.Tables.{HaveEndings}
-use Rattle.cycle_sim.proofs.endings.endings_of.Given as goal
-
-abbrev pub invariant-slots : goal.invariant-slots
-invariant-slots l = HaveEndings l.wires (length l.slots) (timed_actions (take l.t l.slots)) l.endings.items

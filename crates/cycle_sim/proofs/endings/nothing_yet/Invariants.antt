@@ -1,5 +1,0 @@
-use Rattle.std.proofs.Common.{◌≡◌, [], replicate}
-use Rattle.cycle_sim.proofs.endings.nothing_yet.Given as goal
-
-abbrev pub invariant-slots : goal.invariant-slots
-invariant-slots l = l.endings.items ≡ replicate l.counter []
