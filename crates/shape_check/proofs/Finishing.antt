@@ -1,5 +1,5 @@
 -- A11: the places of registers, memories and read ports at the end of a frame.
-use Rattle.std.proofs.Common.{◌≡◌, ◌<◌, ◌≤◌, ◌+◌, ◌⊎◌, ℕ, zero, suc, Bool, true, false, not, List, [], ◌∷◌, length, Option, None, Some, inl, inr, refl, sym, subst, ap, ◌∙◌, arith}
+use Rattle.std.proofs.Common.{◌≡◌, ◌<◌, ◌≤◌, ℕ, zero, suc, Bool, true, false, not, List, [], ◌∷◌, length, Option, None, Some, inl, inr, refl, sym, subst, ap, ◌∙◌, arith}
 use Rattle.std.specs.Prelude.{◌&&◌, is_some, slice_get, unwrap_or, option_and_then, IsTrue}
 use Rattle.std.proofs.lemmas.Option.{slice_get_past}
 use Rattle.facts.proofs.Tests.{no}
@@ -15,7 +15,7 @@ use Rattle.emu_machine.specs.declared.place.Place.{Place}
 use Rattle.emu_machine.specs.declared.place.Place.TheVariants as place
 use Rattle.emu_machine.specs.Netlist.{chip_at, no_chip}
 use Rattle.emu_machine.specs.State.{read_port}
-use Rattle.emu_machine.specs.Acceptance.{Case, FailsA11, Precedes, has_frame, memory_ends, place_key, read_ends, register_at, register_ends}
+use Rattle.emu_machine.specs.Acceptance.{Precedes, has_frame, memory_ends, place_key, read_ends, register_at, register_ends}
 use Rattle.use_check.specs.Least.{Begins, IsLeastUnder}
 use Rattle.use_check.proofs.Walk.{Longer, NoneBefore, found, nowhere}
 use Rattle.shape_check.specs.Influences.{inside_of}

@@ -1,6 +1,6 @@
 -- A11: what a frame that is followed shows, and the frames that are there.
-use Rattle.std.proofs.Common.{◌≡◌, ◌<◌, ◌≤◌, ℕ, Bool, true, false, List, [], ◌∷◌, length, Option, None, Some, refl, sym, subst, ap, ◌∙◌, arith}
-use Rattle.std.specs.Prelude.{◌&&◌, is_some, not, slice_get, IsTrue, Contains}
+use Rattle.std.proofs.Common.{◌≡◌, ◌<◌, ◌≤◌, ℕ, Bool, true, false, List, [], ◌∷◌, length, None, Some, refl, sym, subst, ap, ◌∙◌, arith}
+use Rattle.std.specs.Prelude.{◌&&◌, is_some, slice_get, IsTrue}
 use Rattle.std.proofs.lemmas.Option.{slice_get_past, slice_get-get_or}
 use Rattle.facts.proofs.Places.{at_contains}
 use Rattle.facts.proofs.Tests.{must, no}
@@ -11,18 +11,16 @@ use Rattle.emu_machine.specs.declared.place.Place.{Place}
 use Rattle.emu_machine.specs.declared.place.Place.TheVariants as place
 use Rattle.emu_machine.specs.declared.schedule.Action.{Action}
 use Rattle.emu_machine.specs.declared.schedule.Action.TheVariants as action
-use Rattle.emu_machine.specs.declared.schedule.Frame.{Frame}
-use Rattle.emu_machine.specs.declared.schedule.Slot.{Slot}
 use Rattle.emu_machine.specs.Results.{Results}
 use Rattle.emu_machine.specs.Netlist.{chip_at}
 use Rattle.emu_machine.specs.State.{actions_of, frame_slots}
 use Rattle.emu_machine.specs.Marks.{marks_at}
-use Rattle.emu_machine.specs.Acceptance.{Case, FailsA11, FailsA5, action_fits, case_action_fits, end_marks, fails_test, has_frame, is_hold, place_key, register_of}
+use Rattle.emu_machine.specs.Acceptance.{Case, FailsA11, FailsA5, action_fits, case_action_fits, fails_test, has_frame, is_hold, place_key, register_of}
 use Rattle.use_check.specs.Least.{Begins, IsLeastUnder, Never}
 use Rattle.use_check.proofs.Walk.{Longer}
 use Rattle.frame_marks.specs.Frames.{FrameState, FrameStands, Shows}
 use Rattle.shape_check.specs.Influences.{FrameSpread, Spread, inside_of}
-use Rattle.shape_check.specs.Ends.{AreEndMarks, AreMarksOf, FrameEnd}
+use Rattle.shape_check.specs.Ends.{AreEndMarks, AreMarksOf}
 
 -- an `input` fits, whatever is an input of the group
 input_fits : (holds is_input : Bool) → (holds && is_input) ≡ true → (holds && true) ≡ true

@@ -1,11 +1,10 @@
 -- A11: what the marks at a frame's end say of nets, and how many writes a memory has.
-use Rattle.std.proofs.Common.{◌≡◌, ◌<◌, ℕ, List, [], length, map, refl, sym, subst, ap, ◌∙◌}
+use Rattle.std.proofs.Common.{◌≡◌, ◌<◌, ℕ, [], length, refl, sym, subst, ap, ◌∙◌}
 use Rattle.std.specs.Prelude.{Option, Some, None, slice_get, option_map, option_and_then}
 use Rattle.std.specs.Option.{option_map_or}
 use Rattle.std.proofs.lemmas.Option.{none-some}
 use Rattle.id_arena.specs.declared.keys.ChipNetId.{ChipNetId}
 use Rattle.design_core.specs.declared.element.Memory.{Memory}
-use Rattle.design_core.specs.declared.node.NodeId.{NodeId}
 use Rattle.design_core.specs.declared.parts.Parts.{Parts}
 use Rattle.design_core.specs.Dependency.{write_nodes}
 use Rattle.clock_rank.proofs.Numbering.{port_count, write_nodes_are}
@@ -18,7 +17,7 @@ use Rattle.emu_machine.specs.Results.{Results}
 use Rattle.emu_machine.specs.Netlist.{chip_at, gate_of}
 use Rattle.emu_machine.specs.Mapped.{chip_map}
 use Rattle.emu_machine.specs.Marks.{Mark, design_writes, net_mark, writes_of}
-use Rattle.emu_machine.specs.Acceptance.{Case, end_marks, ends_after}
+use Rattle.emu_machine.specs.Acceptance.{end_marks, ends_after}
 use Rattle.mark_rule.proofs.Free.{IsReadNet, chip_formed, free_read, free_register}
 use Rattle.frame_marks.specs.Frames.{FrameState, mark_in}
 use Rattle.shape_check.specs.Influences.{inside_of}

@@ -1,5 +1,5 @@
 -- All twelve rules, one after the other, where the influences of the groups are known.
-use Rattle.std.proofs.Common.{◌≡◌, ◌<◌, ◌≤◌, ◌⊎◌, inl, inr, ℕ, Bool, Option, Some, None, refl, sym, subst, arith}
+use Rattle.std.proofs.Common.{◌≡◌, ◌<◌, ◌⊎◌, inl, inr, ℕ, Bool, Option, Some, None, sym, subst, arith}
 use Rattle.std.specs.Prelude.{◌+◌, Result, Ok, Err, IfOk}
 use Rattle.emu_io.specs.declared.no_memory.NoMemory.{NoMemory}
 use Rattle.std.proofs.lemmas.Bool.{cases_eq}
@@ -13,7 +13,7 @@ use Rattle.emu_machine.specs.declared.rule.Rule.TheVariants.{A1, A2, A3, A4, A5,
 use Rattle.emu_machine.specs.Acceptance.{Case, Fails, Influences, rule_number}
 use Rattle.use_check.specs.Least.{IsLeast, Never}
 use Rattle.shape_check.specs.Influences.{Spread, inside_of}
-use Rattle.shape_check.specs.Verdict.{HoldBefore, IsFirst, IsVerdict, IsVerdictOn}
+use Rattle.shape_check.specs.Verdict.{HoldBefore, IsVerdict, IsVerdictOn}
 use Rattle.shape_check.specs.declared.verdict.Verdict.{Verdict}
 use Rattle.shape_check.specs.declared.verdict.Verdict.TheVariants.{Accepted, Rejected}
 use Rattle.shape_check.proofs.Ordered.{first_failure, same_rule}

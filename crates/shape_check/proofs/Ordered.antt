@@ -1,5 +1,5 @@
 -- One rule after the other: which is the first that fails.
-use Rattle.std.proofs.Common.{◌≡◌, ◌<◌, ◌≤◌, ◌+◌, ◌⊎◌, inl, inr, ℕ, Bool, true, false, Option, Some, None, refl, sym, ap, ◌∙◌, subst, arith, if◌then◌else◌}
+use Rattle.std.proofs.Common.{◌≡◌, ◌<◌, ◌≤◌, ◌+◌, ◌⊎◌, inl, inr, ℕ, Bool, false, Option, Some, None, refl, sym, ap, ◌∙◌, subst, arith, if◌then◌else◌}
 use Rattle.std.specs.Prelude.{◌==◌, Result, Ok, Err, IfOk}
 use Rattle.emu_io.specs.declared.no_memory.NoMemory.{NoMemory}
 use Rattle.std.proofs.lemmas.Bool.{cases_eq}
@@ -7,9 +7,9 @@ use Rattle.design_core.specs.declared.node.NodeId.{NodeId}
 use Rattle.emu_machine.specs.declared.place.Place.{Place}
 use Rattle.emu_machine.specs.declared.rule.Rule.{Rule}
 use Rattle.emu_machine.specs.declared.rule.Rule.TheVariants.{A1, A2, A3, A4, A5, A6, A7, A8, A9, A10, A11, A12}
-use Rattle.emu_machine.specs.Acceptance.{Case, Fails, IsFirstFailure, rule_number}
+use Rattle.emu_machine.specs.Acceptance.{Case, Fails, rule_number}
 use Rattle.use_check.specs.Least.{IsLeast, Never}
-use Rattle.shape_check.specs.Verdict.{FirstIsFirstFailure, HoldBefore, IsFirst, IsShapeVerdict}
+use Rattle.shape_check.specs.Verdict.{FirstIsFirstFailure, HoldBefore, IsShapeVerdict}
 use Rattle.shape_check.specs.declared.verdict.Verdict.TheVariants.{Accepted, Rejected}
 
 -- the rule of a number

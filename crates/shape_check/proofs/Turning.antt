@@ -3,17 +3,16 @@ use Rattle.std.proofs.Common.{◌≡◌, ◌<◌, ◌≤◌, ◌+◌, ◌⊎◌,
 use Rattle.std.specs.Prelude.{Result, Ok, Err, IfOk, slice_get, unwrap_or}
 use Rattle.emu_io.specs.declared.no_memory.NoMemory.{NoMemory}
 use Rattle.std.proofs.lemmas.Bool.{cases_eq, cases_lt}
-use Rattle.std.proofs.lemmas.Option.{none-some, slice_get_past, get_or_from_slice_get}
+use Rattle.std.proofs.lemmas.Option.{none-some, slice_get_past}
 use Rattle.id_arena.specs.declared.keys.ChipId.{ChipId}
 use Rattle.emu_machine.specs.declared.netlist.Chip.{Chip}
-use Rattle.emu_machine.specs.declared.netlist.EmuGate.{EmuGate}
-use Rattle.emu_machine.specs.Building.{IsBuilt, IsChip}
+use Rattle.emu_machine.specs.Building.{IsBuilt}
 use Rattle.emu_machine.specs.Netlist.{chip_at, net_drivers, no_chip, IsOnCycle, LeadsTo, next, through}
 use Rattle.emu_machine.specs.declared.place.Place.{Place}
 use Rattle.emu_machine.specs.declared.place.Place.TheVariants as place
 use Rattle.emu_machine.specs.Acceptance.{Case, FailsA2, Precedes, place_key}
 use Rattle.gate_cycles.specs.Gates.{IsDriven, IsLeastOnCycle}
-use Rattle.use_check.specs.Least.{IsLeast, Never}
+use Rattle.use_check.specs.Least.{IsLeast}
 
 -- a chip that is not there has no gates
 no_way : (j k : ℕ) → LeadsTo no_chip j k → ⊥

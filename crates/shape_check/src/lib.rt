@@ -32,11 +32,11 @@ mod verdict;
 mod weights;
 
 pub use actions::{find_a5, find_a8};
+pub use all_rules::judge;
 pub use chips::find_a1;
 pub use cycles::find_a2;
 pub use fitting::find_a7;
 pub use frames::find_a4;
-pub use all_rules::judge;
 pub use judging::judge_shape;
 pub use shape_case::ShapeCase;
 pub use unmapped::find_a9;

@@ -1,8 +1,8 @@
 -- The rules from A10 on, each granted those before it.
 use Rattle.std.proofs.Common.{arith, refl}
-use Rattle.emu_machine.specs.declared.rule.Rule.TheVariants.{A2, A4, A5, A9, A10, A11, A12}
+use Rattle.emu_machine.specs.declared.rule.Rule.TheVariants.{A2, A4, A5, A9, A10, A11}
 use Rattle.shape_check.specs.Influences.{inside_of}
-use Rattle.shape_check.proofs.Judged.{and_all, and_fails, and_next, at_first}
+use Rattle.shape_check.proofs.Judged.{and_fails, and_next, at_first}
 use Rattle.shape_check.proofs.all_rules.judge_marks.Goals as goal
 
 pub find_a10-requires : goal.find_a10-requires

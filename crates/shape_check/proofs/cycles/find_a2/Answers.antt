@@ -1,5 +1,5 @@
 -- The chips are taken in order.
-use Rattle.std.proofs.Common.{◌≡◌, ap, subst, arith, refl, ℕ, Some, sym}
+use Rattle.std.proofs.Common.{ap, subst, arith, refl, ℕ, sym}
 use Rattle.id_arena.specs.declared.keys.ChipId.{ChipId}
 use Rattle.emu_machine.specs.Netlist.{chip_at}
 use Rattle.gate_cycles.specs.Gates.{IsLeastOnCycle}

@@ -1,6 +1,6 @@
 -- A chip's registers and memories have numbers of 32 bits.
-use Rattle.std.proofs.Common.{◌≡◌, ◌≤◌, ◌∙◌, length, sym, ap, arith}
-use Rattle.std.specs.Prelude.{Some, slice_get, option_copied}
+use Rattle.std.proofs.Common.{◌≡◌, ◌∙◌, length, sym, ap, arith}
+use Rattle.std.specs.Prelude.{option_copied}
 use Rattle.shape_check.proofs.ends.find_in_chip.Goals as goal
 
 pub find_register-requires-clause-few : goal.find_register-requires-clause-few

@@ -1,5 +1,5 @@
 -- The memories are taken in order.
-use Rattle.std.proofs.Common.{◌≡◌, ◌<◌, ◌≤◌, ◌∙◌, [], ◌∷◌, sym, length, subst, arith, refl, List, ℕ, ap, get_or}
+use Rattle.std.proofs.Common.{◌≡◌, ◌<◌, ◌≤◌, [], ◌∷◌, sym, length, subst, arith, refl, List, ℕ, ap, get_or}
 use Rattle.std.specs.Prelude.{Some, None, slice_get}
 use Rattle.std.proofs.lemmas.Option.{slice_get_read}
 use Rattle.id_arena.specs.declared.keys.MemId.{MemId}
@@ -21,9 +21,9 @@ element xs ys k x same low is = subst (λ (zs : List EmuMemory). slice_get zs k 
 pub find_in_memory-requires : goal.find_in_memory-requires
 find_in_memory-requires c =
     let at : slice_get (chip_at c.args.end.now.judged.results.net c.args.chip.place).memories c.each.k ≡ Some c.index-memories-k.result =
-        element c.args.memories.now _ c.each.k c.index-memories-k.result c.requires.memories c.each-test.true c.index-memories-k.is in
+    element c.args.memories.now _ c.each.k c.index-memories-k.result c.requires.memories c.each-test.true c.index-memories-k.is in
     let small : IsSmall c.index-memories-k.result =
-        small_memory c.args.end.now.judged.results.net c.args.chip.place c.each.k c.index-memories-k.result (subst (λ (x : Case). IsBuilt x.results.net) c.case.ensures c.stands.ensures.netlist) at in
+    small_memory c.args.end.now.judged.results.net c.args.chip.place c.each.k c.index-memories-k.result (subst (λ (x : Case). IsBuilt x.results.net) c.case.ensures c.stands.ensures.netlist) at in
     record {
       there = subst (λ (i : ℕ). slice_get (chip_at c.args.end.now.judged.results.net c.args.chip.place).memories i ≡ Some c.index-memories-k.result) (sym (ap (λ (x : MemId). x.place) c.of.ensures)) at;
       few = omega (arith, small.ports);

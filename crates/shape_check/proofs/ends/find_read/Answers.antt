@@ -1,7 +1,6 @@
 -- The read ports are taken in order.
-use Rattle.std.proofs.Common.{◌≡◌, ◌≤◌, ◌∙◌, [], ◌∷◌, sym, length, subst, arith, refl, List, ℕ, ap}
-use Rattle.std.specs.Prelude.{Some, None}
-use Rattle.emu_machine.specs.declared.netlist.EmuRead.{EmuRead}
+use Rattle.std.proofs.Common.{◌∙◌, [], ◌∷◌, sym, subst, arith, refl, ℕ}
+use Rattle.std.specs.Prelude.{Some}
 use Rattle.emu_machine.specs.declared.place.Place.TheVariants as place
 use Rattle.shape_check.specs.Ends.{ReadFails}
 use Rattle.use_check.specs.Least.{IsLeastUnder}

@@ -1,5 +1,5 @@
 -- The frames are taken in order.
-use Rattle.std.proofs.Common.{◌≡◌, ◌<◌, ◌≤◌, [], ◌∷◌, List, length, sym, subst, arith, refl}
+use Rattle.std.proofs.Common.{◌<◌, ◌≤◌, [], ◌∷◌, List, length, subst, arith, refl}
 use Rattle.emu_machine.specs.declared.place.Place.TheVariants as place
 use Rattle.emu_machine.specs.declared.schedule.Frame.{Frame}
 use Rattle.emu_machine.specs.Results.{Results}
@@ -29,7 +29,7 @@ returns-in-Some c =
 pub frames-preserved : goal.frames-preserved
 frames-preserved c = (
   more (FailsA11 c.args.case.now (inside_of c.args.influences.now)) [] c.frames.k _ c.frames.invariant.0 (subst (λ o. IsLeastUnder (FailsA11 c.args.case.now (inside_of c.args.influences.now)) (c.frames.k ∷ []) o) c.in_default.is c.in_ok-at.ensures.found) refl,
-  c.find_in_frame.ensures.marks
+  c.find_in_frame.ensures.marks,
 )
 
 pub returns : goal.returns

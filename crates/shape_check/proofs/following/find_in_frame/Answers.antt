@@ -1,5 +1,5 @@
 -- The marks that are followed are those of the frame's end.
-use Rattle.std.proofs.Common.{◌≡◌, [], ◌∷◌, subst}
+use Rattle.std.proofs.Common.{[], ◌∷◌, subst}
 use Rattle.shape_check.specs.Ends as ends
 use Rattle.shape_check.specs.Ends.{EndFails}
 use Rattle.use_check.specs.Least.{IsLeastUnder}

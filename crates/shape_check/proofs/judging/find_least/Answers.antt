@@ -1,5 +1,5 @@
 -- Each rule has its function, and is granted those before it.
-use Rattle.std.proofs.Common.{sym, refl, arith, ℕ, Bool, subst}
+use Rattle.std.proofs.Common.{refl, arith}
 use Rattle.emu_machine.specs.declared.rule.Rule.TheVariants.{A1, A2, A3, A4, A5, A6, A7, A8, A9}
 use Rattle.shape_check.proofs.Ordered.{granted, finds, finds_told}
 use Rattle.shape_check.proofs.judging.find_least.Goals as goal

@@ -1,7 +1,6 @@
 -- The chips have no cycle, and there are no more outputs than output bits.
-use Rattle.std.proofs.Common.{◌≡◌, ◌≤◌, List, length, subst, ap, arith}
+use Rattle.std.proofs.Common.{◌≡◌, ◌≤◌, length, subst, ap, arith}
 use Rattle.design_core.specs.Design.{port_bits}
-use Rattle.emu_machine.specs.declared.map.Spot.{Spot}
 use Rattle.emu_machine.specs.declared.place.Place.TheVariants as place
 use Rattle.emu_machine.specs.Results.{Results}
 use Rattle.emu_machine.specs.Netlist.{IsOnCycle, chip_at}

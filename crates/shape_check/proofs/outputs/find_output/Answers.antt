@@ -1,11 +1,11 @@
 -- The outputs are taken in order.
-use Rattle.std.proofs.Common.{◌≡◌, ◌<◌, ◌≤◌, ◌∙◌, [], ◌∷◌, List, ℕ, Bool, length, sym, ap, subst, arith, refl, get_or}
+use Rattle.std.proofs.Common.{◌≡◌, ◌<◌, ◌≤◌, ◌∙◌, [], ◌∷◌, List, ℕ, length, sym, ap, subst, arith, refl, get_or}
 use Rattle.std.specs.Prelude.{Some, None, slice_get}
 use Rattle.std.proofs.lemmas.Option.{slice_get-get_or}
 use Rattle.emu_machine.specs.declared.map.Spot.{Spot}
 use Rattle.emu_machine.specs.declared.place.Place.TheVariants as place
-use Rattle.emu_machine.specs.Acceptance.{FailsA12, shows_before}
-use Rattle.output_marks.specs.Shown.{HasShown, OutputCase}
+use Rattle.emu_machine.specs.Acceptance.{FailsA12}
+use Rattle.output_marks.specs.Shown.{OutputCase}
 use Rattle.use_check.proofs.Walk.{found, more, nowhere}
 use Rattle.shape_check.proofs.Shown.{of_all, one_long, output_hides, output_shows, past_outputs}
 use Rattle.shape_check.proofs.outputs.find_output.Goals as goal

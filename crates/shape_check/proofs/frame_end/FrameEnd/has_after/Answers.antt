@@ -1,4 +1,4 @@
-use Rattle.std.proofs.Common.{◌≡◌, ap, subst, ◌∙◌}
+use Rattle.std.proofs.Common.{ap, subst, ◌∙◌}
 use Rattle.emu_machine.specs.Marks.{Mark}
 use Rattle.shape_check.specs.Ends.{AreEndMarks, FrameEnd}
 use Rattle.shape_check.proofs.FrameEnds.{shown}
